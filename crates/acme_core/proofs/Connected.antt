@@ -10,6 +10,8 @@ use Rattle.ninep_types.specs.Spelling.{spelling_t}
 use Rattle.fid_table.specs.Tables.{msize_of}
 use Rattle.am_journal.specs.declared.ending.Ending.{Ending}
 use Rattle.am_journal.specs.declared.event.Event.{Event}
+use Rattle.am_journal.specs.declared.event.Format.{Format}
+use Rattle.am_journal.specs.Journal.{journal_in}
 use Rattle.am_journal.specs.declared.event.Event.TheVariants as event
 use Rattle.am_journal.specs.declared.event.Why.{Why}
 use Rattle.am_journal.specs.declared.event.Why.TheVariants as why
@@ -20,14 +22,14 @@ use Rattle.am_counter.specs.Played.{ArePlayed, IsPlayed, has_dial, has_hang, is_
 use Rattle.am_counter.specs.Played.{IsMessageWhy}
 use Rattle.core_parts.specs.declared.connection.Connection.{Connection}
 use Rattle.core_parts.specs.declared.connection.Connection.TheVariants.{Undialed, Live, Ended}
-use Rattle.acme_core.specs.Asks.{answer_at}
+use Rattle.acme_core.specs.Asks.{answers_in}
 use Rattle.core_closing.specs.Asks.{is_ended}
 use Rattle.core_parts.specs.Connections.{connection_at, connections_after}
 use Rattle.core_intents.specs.Doings.{enabled_at, is_tag_used}
 use Rattle.core_intents.specs.Enabled.{dial_refusal, live_refusal, first_why, msg_refusal, size_refusal, most_bytes}
 use Rattle.core_intents.specs.Enabled.{tag_refusal, replies_refusal}
 use Rattle.core_parts.specs.Kinds.{kind_of}
-use Rattle.acme_core.specs.Run.{step, run, enabled, present_after}
+use Rattle.acme_core.specs.Run.{step, run, enabled_in, present_after}
 use Rattle.acme_core.proofs.Few.{length-connections}
 use Rattle.acme_core.proofs.Goes.{run-push}
 use Rattle.core_steps.proofs.Joins.{here, elsewhere}
@@ -123,9 +125,9 @@ told_on s (event.Dir path) x d h n lawful allowed told = idle (connection_at s.c
 -- ---- all events
 
 -- the connections after a journal are as it tells
-record AreTold (journal : List Event) : Type 0 where
-  conns : length (run journal).connections ≡ 64
-  told : (conn : ℕ) → IsTold (connection_at (run journal).connections conn) (has_dial journal conn)
+record AreTold (format : Format) (journal : List Event) : Type 0 where
+  conns : length (run (journal_in format journal)).connections ≡ 64
+  told : (conn : ℕ) → IsTold (connection_at (run (journal_in format journal)).connections conn) (has_dial journal conn)
       (has_hang journal conn)
 
 undialed_at : (n c : ℕ) → connection_at (replicate n Undialed) c ≡ Undialed
@@ -133,9 +135,9 @@ undialed_at zero c = refl
 undialed_at (suc n) zero = refl
 undialed_at (suc n) (suc c) = undialed_at n c
 
-none_told : AreTold []
+none_told : (format : Format) → AreTold format []
 unfolding run IsTold
-none_told = record {
+none_told format = record {
   conns = refl;
   told = λ conn. subst (λ (v : Connection). IsTold v false false) (sym (undialed_at 64 conn)) (refl, refl);
 }
@@ -144,33 +146,34 @@ step-connections : (s : State) (e : Event) → (step s e).connections ≡ connec
 unfolding step
 step-connections s e = refl
 
-pushed : (journal : List Event) (e : Event) → (run (journal ++ e ∷ [])).connections
-    ≡ connections_after (run journal).connections (kind_of e)
-pushed journal e = ap (λ (s : State). s.connections) (run-push journal e) ∙ step-connections (run journal) e
+pushed : (format : Format) (journal : List Event) (e : Event) → (run (journal_in format (journal ++ e ∷ []))).connections
+    ≡ connections_after (run (journal_in format journal)).connections (kind_of e)
+pushed format journal e = ap (λ (s : State). s.connections) (run-push (journal_in format journal) e) ∙ step-connections (run (journal_in format journal)) e
 
-told_more : (journal : List Event) (e : Event) → IsLawful e → enabled journal e ≡ None → AreTold journal
-    → AreTold (journal ++ e ∷ [])
-told_more journal e lawful allowed was = record {
-  conns = ap (λ (cs : List Connection). length cs) (pushed journal e)
-      ∙ length-connections (run journal).connections (kind_of e) ∙ was.conns;
+told_more : (format : Format) (journal : List Event) (e : Event) → IsLawful e → enabled_in format journal e ≡ None → AreTold format journal
+    → AreTold format (journal ++ e ∷ [])
+told_more format journal e lawful allowed was = record {
+  conns = ap (λ (cs : List Connection). length cs) (pushed format journal e)
+      ∙ length-connections (run (journal_in format journal)).connections (kind_of e) ∙ was.conns;
   told = λ conn.
-      same (connection_at (run (journal ++ e ∷ [])).connections conn) _ _ _ _
+      same (connection_at (run (journal_in format (journal ++ e ∷ []))).connections conn) _ _ _ _
       (list_any-append (is_dial_of conn) journal (e ∷ [])) (list_any-append (is_hang_of conn) journal (e ∷ []))
       (subst (λ (cs : List Connection). IsTold (connection_at cs conn)
       (has_dial journal conn || (is_dial_of conn e || false)) (has_hang journal conn
       || (is_hang_of conn e || false)))
-      (sym (pushed journal e)) (told_on (present_after journal) e conn _ _ was.conns lawful allowed (was.told conn)));
+      (sym (pushed format journal e)) (told_on (present_after (journal_in format journal)) e conn _ _ was.conns lawful allowed (was.told conn)));
 }
 
-told_all : (before events : List Event) → ArePlayed enabled before events → AreTold before → AreTold (before ++ events)
+told_all : (format : Format) (before events : List Event) → ArePlayed (enabled_in format) before events → AreTold format before
+    → AreTold format (before ++ events)
 unfolding ArePlayed
-told_all before [] played was = subst AreTold (sym (append-nil before)) was
-told_all before (e ∷ events) played was =
-    subst AreTold (append_assoc before (e ∷ []) events) (told_all (before ++ e ∷ []) events played.2
-    (told_more before e played.0 played.1 was))
+told_all format before [] played was = subst (AreTold format) (sym (append-nil before)) was
+told_all format before (e ∷ events) played was =
+    subst (AreTold format) (append_assoc before (e ∷ []) events) (told_all format (before ++ e ∷ []) events played.2
+    (told_more format before e played.0 played.1 was))
 
-told_by : (journal : List Event) → IsPlayed enabled journal → AreTold journal
-told_by journal played = told_all [] journal played none_told
+told_by : (format : Format) (journal : List Event) → IsPlayed (enabled_in format) journal → AreTold format journal
+told_by format journal played = told_all format [] journal played (none_told format)
 
 -- ---- the law
 
@@ -219,17 +222,17 @@ message_told journal conn Undialed later told h = told.0
 message_told journal conn Live later told h = h
 message_told journal conn (Ended reason) later told h = told.1
 
-dial_law : (journal : List Event) (conn : ℕ) → IsPlayed enabled journal
-    → enabled journal (event.Dial conn) ≡ dial_why journal conn
-dial_law journal conn played =
-    dial_told (connection_at (run journal).connections conn) (has_dial journal conn) (has_hang journal conn)
-    ((told_by journal played).told conn)
+dial_law : (format : Format) (journal : List Event) (conn : ℕ) → IsPlayed (enabled_in format) journal
+    → enabled_in format journal (event.Dial conn) ≡ dial_why journal conn
+dial_law format journal conn played =
+    dial_told (connection_at (run (journal_in format journal)).connections conn) (has_dial journal conn) (has_hang journal conn)
+    ((told_by format journal played).told conn)
 
-hang_law : (journal : List Event) (conn : ℕ) (reason : Ending) → IsPlayed enabled journal
-    → enabled journal (event.Hang conn reason) ≡ hang_why journal conn
-hang_law journal conn reason played =
-    hang_told (connection_at (run journal).connections conn) (has_dial journal conn) (has_hang journal conn)
-    ((told_by journal played).told conn)
+hang_law : (format : Format) (journal : List Event) (conn : ℕ) (reason : Ending) → IsPlayed (enabled_in format) journal
+    → enabled_in format journal (event.Hang conn reason) ≡ hang_why journal conn
+hang_law format journal conn reason played =
+    hang_told (connection_at (run (journal_in format journal)).connections conn) (has_dial journal conn) (has_hang journal conn)
+    ((told_by format journal played).told conn)
 
 message_why : (journal : List Event) (conn : ℕ) (v : Connection) (msize : Option ℕ) (used : Bool) (count size : ℕ)
     → IsTold v (has_dial journal conn) (has_hang journal conn)
@@ -240,25 +243,25 @@ message_why journal conn v msize used count size told =
     (size_why journal conn (nat_lt (most_bytes msize) size) (first_why (tag_refusal used) (replies_refusal count))
     (tag_why journal conn used (replies_refusal count) (room_why journal conn (nat_le 256 count))))
 
-message_law : (journal : List Event) (conn : ℕ) (msg : TMsg) → IsPlayed enabled journal
-    → IsMessageWhy journal conn (enabled journal (event.Msg conn msg))
-message_law journal conn msg played =
-    let s : Present = present_after journal in
+message_law : (format : Format) (journal : List Event) (conn : ℕ) (msg : TMsg) → IsPlayed (enabled_in format) journal
+    → IsMessageWhy journal conn (enabled_in format journal (event.Msg conn msg))
+message_law format journal conn msg played =
+    let s : Present = present_after (journal_in format journal) in
     message_why journal conn (connection_at s.connections conn) (msize_of s.tables conn) (is_tag_used s.tables conn msg)
-    (unsent_count s conn) (length (spelling_t msg)) ((told_by journal played).told conn)
+    (unsent_count s conn) (length (spelling_t msg)) ((told_by format journal played).told conn)
 
-ended_law : (journal : List Event) (conn : ℕ) → IsPlayed enabled journal
-    → answer_at journal (ask.Ended conn) ≡ has_hang journal conn
-ended_law journal conn played =
-    ended_told (connection_at (run journal).connections conn) (has_dial journal conn) (has_hang journal conn)
-    ((told_by journal played).told conn)
+ended_law : (format : Format) (journal : List Event) (conn : ℕ) → IsPlayed (enabled_in format) journal
+    → answers_in format journal (ask.Ended conn) ≡ has_hang journal conn
+ended_law format journal conn played =
+    ended_told (connection_at (run (journal_in format journal)).connections conn) (has_dial journal conn) (has_hang journal conn)
+    ((told_by format journal played).told conn)
 
-pub tells_connections : TellsConnections enabled answer_at
-tells_connections = record {
-  dial = λ journal conn played inside. dial_law journal conn played;
-  hang = λ journal conn reason played inside. hang_law journal conn reason played;
-  message = λ journal conn msg played inside. message_law journal conn msg played;
-  ended = λ journal conn played inside. ended_law journal conn played;
+pub tells_connections : (format : Format) → TellsConnections (enabled_in format) (answers_in format)
+tells_connections format = record {
+  dial = λ journal conn played inside. dial_law format journal conn played;
+  hang = λ journal conn reason played inside. hang_law format journal conn reason played;
+  message = λ journal conn msg played inside. message_law format journal conn msg played;
+  ended = λ journal conn played inside. ended_law format journal conn played;
 }
 
 pub ruleset connected = (tells_connections)

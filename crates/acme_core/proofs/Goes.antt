@@ -7,6 +7,9 @@ use Rattle.std.proofs.lemmas.Grind.{fold-append}
 use Rattle.std.proofs.lemmas.List.{length-append, append-nil}
 use Rattle.am_text.specs.Room.{Room}
 use Rattle.am_journal.specs.declared.event.Event.{Event}
+use Rattle.am_journal.specs.declared.event.Format.{Format}
+use Rattle.am_journal.specs.declared.event.Journal.{Journal}
+use Rattle.am_journal.specs.Journal.{journal_in, longer}
 use Rattle.am_journal.specs.declared.event.Why.{Why}
 use Rattle.am_journal.specs.Lawful.{IsLawful}
 use Rattle.am_counter.specs.Played.{ArePlayed, IsPlayed}
@@ -28,17 +31,17 @@ use Rattle.core_intents.specs.Doings.{doing_of, entry_of, CanBeDone}
 use Rattle.core_parts.specs.Kinds.{kind_of}
 use Rattle.acme_core.specs.Kept.{IsKept, IsReady, IsPrepared, AreSound, planned_of}
 use Rattle.core_parts.specs.Parts.{present_of, AreSteady}
-use Rattle.acme_core.specs.Run.{step, run, present_after, enabled, ArePossible, IsPossible}
+use Rattle.acme_core.specs.Run.{step, run, present_after, enabled_in, AreEnabled, ArePossible, IsPossible}
 use Rattle.core_steps.specs.Stages.{after}
-use Rattle.core_parts.specs.States.{Present, State, present, start}
+use Rattle.core_parts.specs.States.{Present, State, present, start_of}
 use Rattle.acme_core.proofs.Few.{length-connections}
 use Rattle.core_steps.proofs.Joins.{joins_on}
 use Rattle.core_intents.proofs.Kinded.{numbered, found}
 use Rattle.acme_core.proofs.Idling.{idle_after, ports_idle_after}
 
-pub run-push : (journal : List Event) (e : Event) → run (journal ++ e ∷ []) ≡ step (run journal) e
+pub run-push : (journal : Journal) (e : Event) → run (longer journal e) ≡ step (run journal) e
 unfolding run
-run-push journal e = fold-append step start journal (e ∷ [])
+run-push journal e = fold-append step (start_of journal.format) journal.events (e ∷ [])
 
 -- ---- the events were enabled
 
@@ -65,25 +68,28 @@ none_played allows = tt
 
 -- ---- and could be done
 
-possible_more : (before events : List Event) (e : Event) → ArePossible before events
-    → CanBeDone (present_after (before ++ events)) (doing_of (present_after (before ++ events)) e)
-    → ArePossible before (events ++ e ∷ [])
+possible_more : (format : Format) (before events : List Event) (e : Event)
+    → ArePossible (journal_in format before) events
+    → CanBeDone (present_after (journal_in format (before ++ events)))
+    (doing_of (present_after (journal_in format (before ++ events))) e)
+    → ArePossible (journal_in format before) (events ++ e ∷ [])
 unfolding ArePossible
-possible_more before [] e all can = (
-  subst (λ (l : List Event). CanBeDone (present_after l)
-      (doing_of (present_after l) e)) (append-nil before) can,
+possible_more format before [] e all can = (
+  subst (λ (l : List Event). CanBeDone (present_after (journal_in format l))
+      (doing_of (present_after (journal_in format l)) e)) (append-nil before) can,
   tt,
 )
-possible_more before (x ∷ events) e all can = (
+possible_more format before (x ∷ events) e all can = (
   all.0,
-  possible_more (before ++ x ∷ []) events e all.1 (subst
-      (λ (l : List Event). CanBeDone (present_after l) (doing_of (present_after l) e))
+  possible_more format (before ++ x ∷ []) events e all.1 (subst
+      (λ (l : List Event). CanBeDone (present_after (journal_in format l))
+      (doing_of (present_after (journal_in format l)) e))
       (sym (append_assoc before (x ∷ []) events)) can),
 )
 
-pub none_possible : IsPossible []
+pub none_possible : (format : Format) → IsPossible (journal_in format [])
 unfolding ArePossible
-none_possible = tt
+none_possible format = tt
 
 -- what the deeds of a step make of the windows is what their changes make of the story
 shows : DeedsShow → (s : State) (e : Event) → AreLawful s.windows → CanBeDone (present s) (doing_of (present s) e)
@@ -126,14 +132,14 @@ sound_on old new spare p was ready changed book idle ports ports_idle =
     }
 
 -- what is kept goes on with a step
-pub kept_on : DeedsShow → (entries next : Room Event) (old new : Parts) (p : Prepared) (e : Event)
+pub kept_on : DeedsShow → (format : Format) (entries next : Room Event) (old new : Parts) (p : Prepared) (e : Event)
     (left : Option Prepared)
-    → IsKept entries old (Some p) → e ≡ p.event → next.items ≡ entries.items ++ e ∷ [] → next.spare ≡ entries.spare - 1
-    → present_of new ≡ after (present_of old) p.event (doing_of (present_after entries.items) p.event)
+    → IsKept format entries old (Some p) → e ≡ p.event → next.items ≡ entries.items ++ e ∷ [] → next.spare ≡ entries.spare - 1
+    → present_of new ≡ after (present_of old) p.event (doing_of (present_after (journal_in format entries.items)) p.event)
     → IsSound new.entries new.scene.book.kept → ArePortsSound new.scene.ports.kept → AreSteady new → left ≡ None
-    → IsKept next new left
-kept_on show entries next old new p e left was is grown spare changed book ports steady none =
-    let s : State = run entries.items in
+    → IsKept format next new left
+kept_on show format entries next old new p e left was is grown spare changed book ports steady none =
+    let s : State = run (journal_in format entries.items) in
     let ready : IsPrepared (present s) entries.spare old p = was.ready in
     let pushed : next.items ≡ entries.items ++ p.event ∷ [] = grown ∙ ap (λ (x : Event). entries.items ++ x ∷ []) is in
     let stood : present_of new ≡ after (present s) p.event (doing_of (present s) p.event) =
@@ -141,7 +147,10 @@ kept_on show entries next old new p e left was is grown spare changed book ports
     in
     let stepped : present_of new ≡ present (step s p.event) = stood
     ∙ sym (stands_on show s p.event was.lawful ready.possible) in
-    let ran : step s p.event ≡ run next.items = sym (run-push entries.items p.event) ∙ ap run (sym pushed) in
+    let ran : step s p.event ≡ run (journal_in format next.items) =
+    sym (run-push (journal_in format entries.items) p.event)
+    ∙ ap (λ (l : List Event). run (journal_in format l)) (sym pushed)
+    in
     let readied : IsPrepared (present_of old) entries.spare old p =
     subst (λ (x : Present). IsPrepared x entries.spare old p) (sym was.state) ready in
     let same : present_of new ≡ after (present_of old) p.event (doing_of (present_of old) p.event) =
@@ -156,40 +165,41 @@ kept_on show entries next old new p e left was is grown spare changed book ports
     let longer : length next.items ≡ length entries.items + 1 = ap (λ (l : List Event). length l) pushed
     ∙ length-append entries.items (p.event ∷ []) in
     record {
-      played = subst (λ (l : List Event). IsPlayed enabled l) (sym pushed)
-          (played_more enabled [] entries.items p.event was.played ready.lawful ready.allowed);
-      possible = subst IsPossible (sym pushed) (possible_more [] entries.items p.event was.possible ready.possible);
+      played = subst (λ (l : List Event). AreEnabled (journal_in format l)) (sym pushed)
+          (played_more (enabled_in format) [] entries.items p.event was.played ready.lawful ready.allowed);
+      possible = subst (λ (l : List Event). IsPossible (journal_in format l)) (sym pushed)
+          (possible_more format [] entries.items p.event was.possible ready.possible);
       state = stepped ∙ ap present ran;
       lawful = subst (λ (x : State). AreLawful x.windows) ran (lawful_on show s p.event was.lawful ready.possible);
       counted = omega (arith, numbered, was.counted, longer);
       sound = sound_on old new entries.spare p was.sound readied same book
-          (subst (λ (x : Present). IsIdle x.scene.book) (sym (stepped ∙ ap present ran)) (idle_after next.items))
+          (subst (λ (x : Present). IsIdle x.scene.book) (sym (stepped ∙ ap present ran)) (idle_after (journal_in format next.items)))
           ports (subst (λ (x : Present). ArePortsIdle x.scene.ports) (sym (stepped ∙ ap present ran))
-          (ports_idle_after next.items));
+          (ports_idle_after (journal_in format next.items)));
       hangs = record {
         room = omega (arith, count, spare, ready.entries.room);
         numbers =
             omega (arith, count, numbered, had, ready.entries.numbers);
       };
-      ready = subst (λ (x : Option Prepared). IsReady (present_after next.items) next.spare new x) (sym none) steady;
+      ready = subst (λ (x : Option Prepared). IsReady (present_after (journal_in format next.items)) next.spare new x) (sym none) steady;
     }
 
 -- a plan that waits is dropped
-pub kept_back : (entries : Room Event) (parts new : Parts) (prepared left : Option Prepared)
-    → IsKept entries parts prepared → left ≡ None
+pub kept_back : (format : Format) (entries : Room Event) (parts new : Parts) (prepared left : Option Prepared)
+    → IsKept format entries parts prepared → left ≡ None
     → new ≡ record parts {
       sessions = both parts.sessions.kept;
       scene = scene_in (kept_of parts.scene);
       outputs =
           both parts.outputs.kept;
-    } → IsKept entries new left
-kept_back entries parts new prepared left was none back =
+    } → IsKept format entries new left
+kept_back format entries parts new prepared left was none back =
     let gone : Parts = record parts {
       sessions = both parts.sessions.kept;
       scene = scene_in (kept_of parts.scene);
       outputs = both parts.outputs.kept;
     } in
-    subst (λ (x : Parts). IsKept entries x left) (sym back)
+    subst (λ (x : Parts). IsKept format entries x left) (sym back)
     (record {
       played = was.played;
       possible = was.possible;
@@ -205,7 +215,7 @@ kept_back entries parts new prepared left was none back =
         ports_idle = was.sound.ports_idle;
       };
       hangs = was.hangs;
-      ready = subst (λ (x : Option Prepared). IsReady (present_after entries.items) entries.spare gone x) (sym none)
+      ready = subst (λ (x : Option Prepared). IsReady (present_after (journal_in format entries.items)) entries.spare gone x) (sym none)
           (record { sessions = refl; scene = settled_in (kept_of parts.scene); outputs = refl });
     })
 
@@ -220,18 +230,19 @@ none_live : (n : ℕ) → live_count (replicate n Undialed) ≡ 0
 none_live zero = refl
 none_live (suc n) = none_live n
 
-pub kept_start : ChangesAreLawful → (entries : Room Event) (parts : Parts) → entries.items ≡ []
-    → present_of parts ≡ present start → AreSteady parts → IsKept entries parts None
+pub kept_start : ChangesAreLawful → (format : Format) (entries : Room Event) (parts : Parts) → entries.items ≡ []
+    → present_of parts ≡ present (start_of format) → AreSteady parts → IsKept format entries parts None
 unfolding run
-kept_start laws entries parts empty state steady =
+kept_start laws format entries parts empty state steady =
     let none : live_count parts.connections.items ≡ 0 = ap (λ (x : Present). live_count x.connections) state
     ∙ none_live 64 in
     let first : parts.entries ≡ 0 = ap (λ (x : Present). x.entries) state in
     record {
-      played = subst (λ (l : List Event). IsPlayed enabled l) (sym empty) (none_played enabled);
-      possible = subst IsPossible (sym empty) none_possible;
-      state = state ∙ ap present_after (sym empty);
-      lawful = subst (λ (x : List Event). AreLawful (run x).windows) (sym empty) laws.begins;
+      played = subst (λ (l : List Event). AreEnabled (journal_in format l)) (sym empty)
+          (none_played (enabled_in format));
+      possible = subst (λ (l : List Event). IsPossible (journal_in format l)) (sym empty) (none_possible format);
+      state = state ∙ ap (λ (l : List Event). present_after (journal_in format l)) (sym empty);
+      lawful = subst (λ (l : List Event). AreLawful (run (journal_in format l)).windows) (sym empty) laws.begins;
       counted = first ∙ ap (λ (l : List Event). length l) (sym empty);
       sound = record {
         conns = ap (λ (x : Present). length x.connections) state;
@@ -253,9 +264,9 @@ unfolding step
 counts s [] = omega arith
 counts s (e ∷ journal) = omega (arith, counts (step s e) journal)
 
-pub entries_counted : (journal : List Event) → (run journal).entries ≡ length journal
+pub entries_counted : (journal : Journal) → (run journal).entries ≡ length journal.events
 unfolding run
-entries_counted journal = omega (arith, counts start journal)
+entries_counted journal = omega (arith, counts (start_of journal.format) journal.events)
 
 -- ---- the numbers of groups
 
@@ -270,11 +281,12 @@ numbered_from : NumbersStay → (s : State) (journal : List Event) → AreNumber
 numbered_from law s [] h = h
 numbered_from law s (e ∷ journal) h = numbered_from law (step s e) journal (numbered_on law s e h)
 
-pub groups_numbered : NumbersStay → (journal : List Event) → AreNumbered (length journal) (run journal).windows
+pub groups_numbered : NumbersStay → (journal : Journal)
+    → AreNumbered (length journal.events) (run journal).windows
 unfolding run
 groups_numbered law journal =
-    subst (λ (n : ℕ). AreNumbered n (fold step start journal).windows) (entries_counted journal)
-    (numbered_from law start journal law.begins)
+    subst (λ (n : ℕ). AreNumbered n (fold step (start_of journal.format) journal.events).windows)
+    (entries_counted journal) (numbered_from law (start_of journal.format) journal.events law.begins)
 
 -- ---- where no plan waits
 

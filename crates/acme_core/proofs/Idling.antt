@@ -2,10 +2,11 @@
 use Rattle.std.proofs.Common.{List, [], ◌∷◌, refl}
 use Rattle.std.specs.List.{fold}
 use Rattle.am_journal.specs.declared.event.Event.{Event}
+use Rattle.am_journal.specs.declared.event.Journal.{Journal}
 use Rattle.core_events.specs.Sound.{IsIdle}
 use Rattle.core_events.specs.PortSound.{ArePortsIdle}
 use Rattle.core_events.proofs.Idles.{AreIdle, empty_idle, idle_end}
-use Rattle.core_parts.specs.States.{State, present, start}
+use Rattle.core_parts.specs.States.{State, present, start_of}
 use Rattle.core_intents.specs.Doings.{doing_of}
 use Rattle.core_parts.specs.Kinds.{kind_of}
 use Rattle.acme_core.specs.Run.{step, run}
@@ -21,11 +22,11 @@ fold_idle : (s : State) (events : List Event) → AreIdle [] s.entries s.scene.b
 fold_idle s [] idle = idle
 fold_idle s (e ∷ events) idle = fold_idle (step s e) events (step_idle s e idle)
 
-pub run_idle : (journal : List Event) → AreIdle [] (run journal).entries (run journal).scene.book
+pub run_idle : (journal : Journal) → AreIdle [] (run journal).entries (run journal).scene.book
 unfolding run
-run_idle journal = fold_idle start journal empty_idle
+run_idle journal = fold_idle (start_of journal.format) journal.events empty_idle
 
-pub idle_after : (journal : List Event) → IsIdle (run journal).scene.book
+pub idle_after : (journal : Journal) → IsIdle (run journal).scene.book
 idle_after journal = idle_end (run journal).entries (run journal).scene.book (run_idle journal)
 
 -- the same of ports
@@ -38,8 +39,8 @@ fold_ports : (s : State) (events : List Event) → ArePortsIdle s.scene.ports
 fold_ports s [] idle = idle
 fold_ports s (e ∷ events) idle = fold_ports (step s e) events (step_ports s e)
 
-pub ports_idle_after : (journal : List Event) → ArePortsIdle (run journal).scene.ports
+pub ports_idle_after : (journal : Journal) → ArePortsIdle (run journal).scene.ports
 unfolding run
-ports_idle_after journal = fold_ports start journal refl
+ports_idle_after journal = fold_ports (start_of journal.format) journal.events refl
 
 pub ruleset idling = (idle_after, ports_idle_after)

@@ -1,7 +1,7 @@
 -- The addresses of windows.
 use Rattle.std.proofs.Common.{◌≡◌, ℕ, List, Option, Some, None, refl, sym, ap, subst, ◌∙◌}
 use Rattle.std.specs.Prelude.{IfSome}
-use Rattle.am_journal.specs.declared.event.Event.{Event}
+use Rattle.am_journal.specs.declared.event.Journal.{Journal}
 use Rattle.am_text.specs.declared.range.Range.{Range}
 use Rattle.std.specs.Option.{option_map}
 use Rattle.core_windows.specs.Stories.{WindowStory, shown_if_live, story_at, IsLawfulIfLive, AreLawful}
@@ -19,7 +19,7 @@ addr_shown : (o : Option WindowStory) → option_map window_addr (shown_if_live 
 addr_shown None = refl
 addr_shown (Some s) = refl
 
-pub addr_kept : (p : Parts) (journal : List Event) (w : ℕ) (r : Option Range) → present_of p ≡ present_after journal
+pub addr_kept : (p : Parts) (journal : Journal) (w : ℕ) (r : Option Range) → present_of p ≡ present_after journal
     → r ≡ option_map window_addr (window_at p.scene.windows.kept w) → r ≡ addr_at journal w
 addr_kept p journal w r e h =
     h ∙ ap (λ (s : Present). option_map window_addr (window_at s.scene.windows w)) e
@@ -30,7 +30,7 @@ lawful_inside : (o : Option WindowStory) → IsLawfulIfLive o → IfSome (addr_o
 lawful_inside None h = tt
 lawful_inside (Some s) h = (all_inside s.body h.body).addr
 
-pub addr_inside : (journal : List Event) (w : ℕ) (r : Option Range) → AreLawful (run journal).windows
+pub addr_inside : (journal : Journal) (w : ℕ) (r : Option Range) → AreLawful (run journal).windows
     → r ≡ addr_at journal w → IfSome r (IsInside (body_at journal w))
 addr_inside journal w r lawful e =
     subst (λ (x : Option Range). IfSome x (IsInside (body_at journal w))) (sym e)

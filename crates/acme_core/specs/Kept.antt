@@ -2,8 +2,9 @@
 use Rattle.std.specs.Prelude.{◌≡◌, ℕ, ◌+◌, ◌<◌, ◌≤◌, ◌^◌, length, Option, Some, None}
 use Rattle.am_text.specs.Room.{Room}
 use Rattle.am_journal.specs.declared.event.Event.{Event}
+use Rattle.am_journal.specs.declared.event.Format.{Format}
+use Rattle.am_journal.specs.Journal.{journal_in}
 use Rattle.am_journal.specs.Lawful.{IsLawful}
-use Rattle.am_counter.specs.Played.{IsPlayed}
 use Rattle.core_windows.specs.Stories.{AreLawful}
 use Rattle.core_events.specs.Sound.{IsSound, IsIdle}
 use Rattle.core_events.specs.PortSound.{ArePortsSound, ArePortsIdle}
@@ -15,7 +16,7 @@ use Rattle.core_parts.specs.Kinds.{kind_of}
 use Rattle.core_parts.specs.Parts.{present_of, AreSteady}
 use Rattle.core_steps.specs.Ready.{HasReady}
 use Rattle.am_journal.specs.Limits.{connection_count}
-use Rattle.acme_core.specs.Run.{run, present_after, enabled, IsPossible}
+use Rattle.acme_core.specs.Run.{run, present_after, AreEnabled, IsPossible}
 use Rattle.core_parts.specs.States.{Present}
 
 -- the event of a plan that waits
@@ -52,14 +53,14 @@ pub record AreSound (parts : Parts) : Type 0 where
   pub ports : ArePortsSound parts.scene.ports.kept
   pub ports_idle : ArePortsIdle parts.scene.ports.kept
 
--- The journal's events were enabled and could be done, the tables are as it leads to, its windows are lawful, and there
--- is an entry for the hang-up of each connection that lives.
-pub record IsKept (entries : Room Event) (parts : Parts) (prepared : Option Prepared) : Type 0 where
-  pub played : IsPlayed enabled entries.items
-  pub possible : IsPossible entries.items
-  pub state : present_of parts ≡ present_after entries.items
-  pub lawful : AreLawful (run entries.items).windows
+-- The events of the journal of this format were enabled and could be done, the tables are as it leads to, its windows
+-- are lawful, and there is an entry for the hang-up of each connection that lives.
+pub record IsKept (format : Format) (entries : Room Event) (parts : Parts) (prepared : Option Prepared) : Type 0 where
+  pub played : AreEnabled (journal_in format entries.items)
+  pub possible : IsPossible (journal_in format entries.items)
+  pub state : present_of parts ≡ present_after (journal_in format entries.items)
+  pub lawful : AreLawful (run (journal_in format entries.items)).windows
   pub counted : parts.entries ≡ length entries.items
   pub sound : AreSound parts
   pub hangs : HasEntries parts.entries entries.spare (live_count parts.connections.items)
-  pub ready : IsReady (present_after entries.items) entries.spare parts prepared
+  pub ready : IsReady (present_after (journal_in format entries.items)) entries.spare parts prepared

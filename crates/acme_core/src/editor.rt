@@ -1,10 +1,11 @@
 //! The editor, which contracts see as its journal.
 
-ghost use Rattle.std.specs.Prelude.{◌≡◌, ◌<◌, ◌+◌, ◌^◌, ◌++◌, ◌∷◌, [], Some, None, length, slice_get, IsSome, OnSome};
+ghost use Rattle.std.specs.Prelude.{◌≡◌, ◌<◌, ◌+◌, ◌^◌, [], Some, None, length, slice_get, IsSome, OnSome};
 ghost use Rattle.std.specs.Prelude.{IfOk, IfSome, OnOk, OnErr, IfErr, MatchOption};
 ghost use Rattle.am_journal.specs.Lawful.{IsLawful};
-ghost use Rattle.am_counter.specs.Played.{IsPlayed};
-ghost use Rattle.acme_core.specs.Run.{enabled, run, output_at, Refuses, IsHang, IsPossible, IsWhy, settled, ready};
+ghost use Rattle.am_journal.specs.Journal.{journal_in, longer};
+ghost use Rattle.acme_core.specs.Run.{enabled, run, output_at, Refuses, IsHang, AreEnabled, IsPossible, IsWhy};
+ghost use Rattle.acme_core.specs.Run.{settled, ready};
 ghost use Rattle.core_windows.specs.Stories.{AreLawful};
 ghost use Rattle.core_windows.specs.WindowLaws.{AreNumbered};
 ghost use Rattle.win_text.specs.Bodies.{IsInside};
@@ -31,7 +32,8 @@ use std::marker::Model;
 /// An editor of one thread. Its journal tells all that it is.
 pub struct Core {
     alloc: Global,
-    journal: Roomy<Event>,
+    format: Format,
+    events: Roomy<Event>,
     parts: Parts,
     prepared: Option<Prepared>,
 }
@@ -41,7 +43,8 @@ impl Drop for Core {
     fn drop(self) {
         let Core {
             alloc: _,
-            journal: _,
+            format: _,
+            events: _,
             parts: _,
             prepared: _,
         } = self;
@@ -53,11 +56,12 @@ impl Model for Core {
 
     ghost Value = { Editor };
 
+    ghost use Rattle.am_journal.specs.Journal.{journal_in};
     ghost use Rattle.acme_core.specs.Kept.{planned_of, IsKept};
 
-    ghost view = { λ c. record { journal = c.journal.items; planned = planned_of c.prepared } };
+    ghost view = { λ c. record { journal = journal_in c.format c.events.items; planned = planned_of c.prepared } };
 
-    ghost invariant = { λ c. IsKept c.journal c.parts c.prepared };
+    ghost invariant = { λ c. IsKept c.format c.events c.parts c.prepared };
 }
 
 /// A plan that can be committed, by the number that its entry will have.
@@ -77,17 +81,18 @@ impl Model for Plan {
 }
 
 impl Core {
-    /// The empty editor of format 1.
+    /// The empty editor, whose journal will be of this format.
     #[tactic(auto, unfolding(crate::specs::Run::run))]
-    pub fn new(alloc: Global) -> Result<Core, NoMemory>
-        ensures { IfOk result (λ core. core ≡ settled []) }
+    pub fn new(alloc: Global, format: Format) -> Result<Core, NoMemory>
+        ensures { IfOk result (λ core. core ≡ settled (journal_in format [])) }
     {
         // law: windows are lawful at the start
         changes_are_lawful();
         Ok(Core {
             alloc,
-            journal: Roomy::new(alloc),
-            parts: Parts::new(alloc, Format::One)?,
+            format,
+            events: Roomy::new(alloc),
+            parts: Parts::new(alloc, format)?,
             prepared: None,
         })
     }
@@ -108,7 +113,7 @@ impl Core {
     pub fn plan(&mut self, event: Event) -> Result<Plan, Refused>
         requires { IsLawful event }
         ensures ok { IfOk result (λ plan. (enabled self.old.journal event ≡ None)
-            × (plan ≡ length self.old.journal + 1)) }
+            × (plan ≡ length self.old.journal.events + 1)) }
         ensures ready { OnOk result (self.new ≡ ready self.old.journal event) }
         ensures refused { IfErr result (λ e. Refuses e (enabled self.old.journal event)) }
         ensures err { OnErr result (self.new ≡ settled self.old.journal) }
@@ -116,10 +121,10 @@ impl Core {
         ensures hang { IsHang event → IfErr result IsWhy }
     {
         self.drop_plan();
-        let before = self.journal.len();
+        let before = self.events.len();
         prepare(
             self.alloc,
-            &mut self.journal,
+            &mut self.events,
             &mut self.parts,
             event,
             &mut self.prepared,
@@ -130,9 +135,9 @@ impl Core {
     /// Does the step of the last plan, and answers the number of its entry. It takes no memory.
     pub fn commit(&mut self, plan: Plan) -> u64
         requires planned { IsSome self.old.planned }
-        requires last { plan ≡ length self.old.journal + 1 }
-        ensures new { IfSome self.old.planned (λ event. self.new ≡ settled (self.old.journal ++ event ∷ [])) }
-        ensures number { result ≡ length self.new.journal }
+        requires last { plan ≡ length self.old.journal.events + 1 }
+        ensures new { IfSome self.old.planned (λ event. self.new ≡ settled (longer self.old.journal event)) }
+        ensures number { result ≡ length self.new.journal.events }
     {
         let Plan { .. } = plan;
         let Some(prepared) = self.prepared.take() else {
@@ -141,15 +146,15 @@ impl Core {
         // law: what the deeds do to the windows shows in their stories
         deeds_show();
         let event = apply(self.alloc, &mut self.parts, prepared);
-        self.journal.put(event);
-        self.journal.len() as u64
+        self.events.put(event);
+        self.events.len() as u64
     }
 
     /// Does an event, if it is enabled, and answers the number of its entry. A refusal changes nothing.
     pub fn step(&mut self, event: Event) -> Result<u64, Refused>
         requires { IsLawful event }
-        ensures ok { IfOk result (λ n. (enabled self.old.journal event ≡ None) × (n ≡ length self.old.journal + 1)) }
-        ensures done { OnOk result (self.new ≡ settled (self.old.journal ++ event ∷ [])) }
+        ensures ok { IfOk result (λ n. (enabled self.old.journal event ≡ None) × (n ≡ length self.old.journal.events + 1)) }
+        ensures done { OnOk result (self.new ≡ settled (longer self.old.journal event)) }
         ensures refused { IfErr result (λ e. Refuses e (enabled self.old.journal event)) }
         ensures err { OnErr result (self.new ≡ settled self.old.journal) }
         // A hang-up is never refused for memory.
@@ -203,7 +208,7 @@ impl Core {
         ensures { IfOk result (λ view. view ≡ view_of self.now.journal) }
     {
         let items = self.ledger()?;
-        view_of(self.alloc, self.journal.len() as u64, items, &self.parts)
+        view_of(self.alloc, self.events.len() as u64, items, &self.parts)
     }
 
     /// All items that were ever made, each with its life and its spelling, by window and number.
@@ -215,10 +220,10 @@ impl Core {
 
     /// In each journal of a core each event is lawful, and was enabled after those before it.
     pub fn events_were_enabled(&self)
-        ensures { IsPlayed enabled self.now.journal }
+        ensures { AreEnabled self.now.journal }
     {
         // law: it is the invariant of the core, known once a field is read
-        let _entries = self.journal.len();
+        let _entries = self.events.len();
     }
 
     /// In each journal of a core what each event does could be done at its place: the windows of its changes lived, and
@@ -227,7 +232,7 @@ impl Core {
         ensures { IsPossible self.now.journal }
     {
         // law: it is the invariant of the core, known once a field is read
-        let _entries = self.journal.len();
+        let _entries = self.events.len();
     }
 
     /// In each journal of a core each window is lawful: each of its ranges was set inside the text of its time, and its
@@ -237,13 +242,13 @@ impl Core {
         ensures { AreLawful (run self.now.journal).windows }
     {
         // law: it is the invariant of the core, known once a field is read
-        let _entries = self.journal.len();
+        let _entries = self.events.len();
     }
 
     /// In each journal of a core, along the groups of edits of each live window that are past and then those that were
     /// undone, the numbers never fall, and none is above the number of entries.
     pub fn groups_are_numbered(&self)
-        ensures { AreNumbered (length self.now.journal) (run self.now.journal).windows }
+        ensures { AreNumbered (length self.now.journal.events) (run self.now.journal).windows }
     {
         group_numbers_never_fall();
     }
@@ -276,23 +281,30 @@ impl Core {
         ensures ports { ArePortsIdle (run self.now.journal).scene.ports }
     {
         // law: it is the invariant of the core, known once a field is read
-        let _entries = self.journal.len();
+        let _entries = self.events.len();
     }
 
     /// The number of an entry is its place in the journal, from 1.
     #[tactic(auto, using(crate::proofs::Goes::entries_counted))]
     pub fn entries_are_counted(&self)
-        ensures { (run self.now.journal).entries ≡ length self.now.journal }
+        ensures { (run self.now.journal).entries ≡ length self.now.journal.events }
     {
         // law: it is the invariant of the core, known once a field is read
-        let _entries = self.journal.len();
+        let _entries = self.events.len();
+    }
+
+    /// The format of the journal.
+    pub fn format(&self) -> Format
+        ensures { result ≡ self.now.journal.format }
+    {
+        self.format
     }
 
     /// All events that were done, in order.
-    pub fn journal(&self) -> &[Event]
-        ensures { result.now ≡ self.now.journal }
+    pub fn events(&self) -> &[Event]
+        ensures { result.now ≡ self.now.journal.events }
     {
-        self.journal.as_slice()
+        self.events.as_slice()
     }
 
     /// The journal, at the end.
@@ -301,10 +313,14 @@ impl Core {
     {
         let Core {
             alloc: _,
-            journal,
+            format,
+            events,
             parts: _,
             prepared: _,
         } = self;
-        journal.into_items()
+        Journal {
+            format,
+            events: events.into_items(),
+        }
     }
 }

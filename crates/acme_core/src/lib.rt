@@ -7,8 +7,8 @@ mod planning;
 
 pub use am_counter::Ask;
 pub use am_journal::{
-    ConnView, ConnViews, Event, ItemView, ItemViews, Journal, Refused, Side, Spot, View, Why,
-    WindowView, WindowViews,
+    ConnView, ConnViews, Event, Events, Format, ItemView, ItemViews, Journal, Refused, Side, Spot,
+    View, Why, WindowView, WindowViews,
 };
 pub use am_text::{Bytes, Items, NoMemory, Range, Rune, Runes};
 pub use core_outputs::Reply;

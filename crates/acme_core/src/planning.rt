@@ -25,7 +25,7 @@ use std::alloc::Global;
 #[tactic(auto, using(crate::proofs::Joins::joined))]
 fn ready(
     alloc: Global,
-    journal: &mut Roomy<Event>,
+    events: &mut Roomy<Event>,
     parts: &mut Parts,
     event: Event,
 ) -> Result<Prepared, NoMemory>
@@ -33,16 +33,16 @@ fn ready(
     requires stays { is_hang event ≡ false }
     requires sound { AreSound parts.old }
     requires steady { AreSteady parts.old }
-    requires counted { parts.old.entries ≡ length journal.old.items }
+    requires counted { parts.old.entries ≡ length events.old.items }
     requires allowed { enabled_at (present_of parts.old) event ≡ None }
-    ensures items { journal.new.items ≡ journal.old.items }
-    ensures spare { journal.old.spare ≤ journal.new.spare }
+    ensures items { events.new.items ≡ events.old.items }
+    ensures spare { events.old.spare ≤ events.new.spare }
     ensures state { present_of parts.new ≡ present_of parts.old }
     ensures event { IfOk result (λ p. p.event ≡ event) }
-    ensures prepared { IfOk result (IsPrepared (present_of parts.old) journal.new.spare parts.new) }
+    ensures prepared { IfOk result (IsPrepared (present_of parts.old) events.new.spare parts.new) }
 {
     let intent = intent_of(alloc, parts, &event)?;
-    journal.reserve(CONNECTIONS + 2)?;
+    events.reserve(CONNECTIONS + 2)?;
     let at = parts.entries + 1;
     grow(alloc, parts, event, intent, at)
 }
@@ -78,7 +78,7 @@ fn hanging(alloc: Global, parts: &Parts, event: Event) -> Prepared
 #[tactic(auto, using(crate::proofs::Joins::joined, crate::proofs::Hangs::hung))]
 pub(crate) fn prepare(
     alloc: Global,
-    journal: &mut Roomy<Event>,
+    events: &mut Roomy<Event>,
     parts: &mut Parts,
     event: Event,
     prepared: &mut Option<Prepared>,
@@ -86,13 +86,13 @@ pub(crate) fn prepare(
     requires lawful { IsLawful event }
     requires sound { AreSound parts.old }
     requires steady { AreSteady parts.old }
-    requires counted { parts.old.entries ≡ length journal.old.items }
-    requires hangs { HasEntries parts.old.entries journal.old.spare (live_count parts.old.connections.items) }
-    ensures items { journal.new.items ≡ journal.old.items }
-    ensures spare { journal.old.spare ≤ journal.new.spare }
+    requires counted { parts.old.entries ≡ length events.old.items }
+    requires hangs { HasEntries parts.old.entries events.old.spare (live_count parts.old.connections.items) }
+    ensures items { events.new.items ≡ events.old.items }
+    ensures spare { events.old.spare ≤ events.new.spare }
     ensures state { present_of parts.new ≡ present_of parts.old }
     ensures event { OnOk result (planned_of prepared.new ≡ Some event) }
-    ensures prepared { OnOk result (IsReady (present_of parts.old) journal.new.spare parts.new prepared.new) }
+    ensures prepared { OnOk result (IsReady (present_of parts.old) events.new.spare parts.new prepared.new) }
     ensures stays { OnErr result (prepared.new ≡ prepared.old) }
     ensures refused { IfErr result (λ e. Refuses e (enabled_at (present_of parts.old) event)) }
     ensures hang { IsHang event → IfErr result IsWhy }
@@ -105,7 +105,7 @@ pub(crate) fn prepare(
         *prepared = Some(hanging(alloc, parts, event));
         return Ok(());
     }
-    match ready(alloc, journal, parts, event) {
+    match ready(alloc, events, parts, event) {
         Ok(made) => {
             *prepared = Some(made);
             Ok(())

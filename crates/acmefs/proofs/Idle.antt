@@ -4,8 +4,11 @@ use Rattle.std.specs.Prelude.{string_bytes}
 use Rattle.std.proofs.lemmas.List.{append-nil}
 use Rattle.am_base.specs.Outside.{BytesTold, AreTold, told_then}
 use Rattle.am_base.specs.Seen.{Given, Seen, seen}
-use Rattle.am_journal.specs.declared.event.Event.{Event}
+use Rattle.am_journal.specs.declared.event.Format.TheVariants.{One}
+use Rattle.am_journal.specs.declared.event.Journal.{Journal}
+use Rattle.am_journal.specs.Journal.{journal_in}
 use Rattle.am_drill.specs.declared.driving.DrillEnd.TheVariants as drilling
+use Rattle.am_drill.specs.Brief.{followed}
 use Rattle.am_drill.specs.Drill.{events}
 use Rattle.am_slots.specs.Slots.{Outside}
 use Rattle.am_server.specs.declared.served.Served.{Served}
@@ -33,11 +36,11 @@ nothing_told None = refl
 nothing_told (Some bytes) = ap Some (sym (append-nil bytes))
 
 -- want of memory before the first event
-ran_out : (script : scripts.Script) (o : Seen) (journal : List Event) → o.now.bytes ≡ o.before.bytes → journal ≡ []
-    → RanOut script o journal
+ran_out : (script : scripts.Script) (o : Seen) (journal : Journal) → o.now.bytes ≡ o.before.bytes
+    → journal ≡ journal_in One [] → RanOut script o journal
 unfolding replied_from
 ran_out script o journal silent none = subst (RanOut script o) (sym none) (record {
-  events = (script.events, refl);
+  events = inl refl;
   put = ([], inl refl, (text_of script, refl), inl (silent ∙ nothing_told o.before.bytes));
 })
 
@@ -52,14 +55,15 @@ are_told (Some bytes) = refl
 
 module _ {G L S K : Type 0} where
   -- the run in which memory ran out before anything was read or written
-  abbrev Nothing : Status → Outside G L S K → Given → BytesTold → List Event → List (Served G L S K) → Run G L S K
+  abbrev Nothing : Status → Outside G L S K → Given → BytesTold → Journal → List (Served G L S K) → Run G L S K
   Nothing status m i first journal served = run status m i (seen first first) journal served
 
   -- whatever was asked for, that is one of its ends
   asked_idle : (a : Asked) (status : Status) (m : Outside G L S K) (i : Given) (first : BytesTold)
-      (journal : List Event) (served : List (Served G L S K))
-      → status ≡ exit.NoMemory → i.input.now.bytes ≡ i.input.before.bytes → i.host.now ≡ i.host.before → journal ≡ []
-      → served ≡ [] → OfJournal journal → OfAsked a (Nothing status m i first journal served)
+      (journal : Journal) (served : List (Served G L S K))
+      → status ≡ exit.NoMemory → i.input.now.bytes ≡ i.input.before.bytes → i.host.now ≡ i.host.before
+      → journal ≡ journal_in One [] → served ≡ [] → OfJournal journal
+      → OfAsked a (Nothing status m i first journal served)
   asked_idle asked.Replay status m i first journal served is unread unasked empty none of =
       of_replay (Nothing status m i first journal served) end.NoMemory is (
         bytes_in i.input.before.bytes,
@@ -77,10 +81,14 @@ module _ {G L S K : Type 0} where
   }
   asked_idle (asked.Drill rounds) status m i first journal served is unread unasked empty none of =
       of_drill rounds (Nothing status m i first journal served)
-      (drilling.NoMemory, is, ((events rounds, ap (λ (j : List Event). j ++ events rounds) empty), (refl, refl))) unread
-      none of
+      (drilling.NoMemory, is, ((events rounds, ap (λ (j : Journal). followed j (events rounds)) empty), (refl, refl)))
+      unread none of
   asked_idle (asked.Serve path clients) status m i first journal served is unread unasked empty none of = record {
-    serves = (serving.NoMemory, is, inr (inr (inl (refl, record { silent = refl; empty = empty; none = none }))));
+    serves = (
+      serving.NoMemory,
+      is,
+      inr (inr (inl (refl, record { silent = refl; empty = ap (λ (j : Journal). j.events) empty; none = none }))),
+    );
     replied = λ h. none_replied m journal served none;
     sound = none_ended m journal served none;
     complete = none_complete m clients i.input.before.bytes i (seen first first) journal served status is;
@@ -95,9 +103,9 @@ module _ {G L S K : Type 0} where
 
   -- memory ran out before the words were read
   pub of_want : (words : List (List ℕ)) (status : Status) (m : Outside G L S K) (i : Given) (first : BytesTold)
-      (journal : List Event) (served : List (Served G L S K))
+      (journal : Journal) (served : List (Served G L S K))
       → AreKnown words → status ≡ exit.NoMemory → i.input.now.bytes ≡ i.input.before.bytes →
-      i.host.now ≡ i.host.before → journal ≡ [] → served ≡ [] → OfJournal journal
+      i.host.now ≡ i.host.before → journal ≡ journal_in One [] → served ≡ [] → OfJournal journal
       → OfWords words (Nothing status m i first journal served)
   of_want words status m i first journal served known is unread unasked empty none of = record {
     asked = λ a x. asked_idle a status m i first journal served is unread unasked empty none of;

@@ -2,7 +2,8 @@
 use Rattle.std.proofs.Common.{◌≡◌, inl, inr, ℕ, List, [], Option, Some, None, sym, subst, arith, ap}
 use Rattle.std.specs.Prelude.{IfSome}
 use Rattle.am_base.specs.Outside.{BytesTold, HasRisen}
-use Rattle.am_journal.specs.declared.event.Event.{Event}
+use Rattle.am_journal.specs.declared.event.Format.TheVariants.{One}
+use Rattle.am_journal.specs.declared.event.Journal.{Journal}
 use Rattle.am_replay.specs.declared.replaying.End.{End}
 use Rattle.am_replay.specs.declared.replaying.End.TheVariants.{Done, Usage, Script, ReadFault, WriteFault, NoMemory}
 use Rattle.am_replay.specs.Scripts.{script_of}
@@ -16,13 +17,13 @@ use Rattle.acmefs.specs.Statuses.{number_of}
 use Rattle.acmefs.specs.Top.{OfJournal, OfReplay, Run}
 use Rattle.am_replay.proofs.OwnText.{says_own}
 
-told_ran : (end : End) (told : Option (List ℕ)) (o : Seen) (journal : List Event) → Replays end told o journal
+told_ran : (end : End) (told : Option (List ℕ)) (o : Seen) (journal : Journal) → Replays end told o journal
     → RanTold end told o journal
 told_ran end None o journal r = tt
 told_ran end (Some bytes) o journal r = subst (λ (x : List ℕ). Ran end (script_of x) o journal) (sym r.1) r.2
 
 told_part : (end : End) (status : Status) (told : Option (List ℕ)) (before now : BytesTold) (o : Seen)
-    (journal : List Event) → Replays end told o journal
+    (journal : Journal) → Replays end told o journal
     → ((script : scripts.Script) → Ran end script o journal → IsComplete status script before now o journal)
     → IfSome told (λ bytes. IsComplete status (script_of bytes) before now o journal)
 told_part end status None before now o journal r f = tt
@@ -30,7 +31,7 @@ told_part end status (Some bytes) before now o journal r f = f (script_of bytes)
     (subst (λ (x : List ℕ). Ran end (script_of x) o journal) (sym r.1) r.2)
 
 -- status 1 comes only for other words
-pub usage : (end : End) (status : Status) (before now : BytesTold) (o : Seen) (journal : List Event)
+pub usage : (end : End) (status : Status) (before now : BytesTold) (o : Seen) (journal : Journal)
     → status ≡ status_of end → Says end before now o journal → status ≡ exit.Usage → ⊥
 usage Done status before now o journal e p h = absurd (omega (arith, ap number_of e, ap number_of h))
 usage Usage status before now o journal e p h = absurd p
@@ -40,8 +41,8 @@ usage WriteFault status before now o journal e p h = absurd (omega (arith, ap nu
 usage NoMemory status before now o journal e p h = absurd (omega (arith, ap number_of e, ap number_of h))
 
 -- where the input failed nothing is written or done
-pub idle_fault : (end : End) (status : Status) (before now : BytesTold) (o : Seen) (journal : List Event)
-    → status ≡ status_of end → Says end before now o journal → status ≡ exit.ReadFault → IsIdle o journal
+pub idle_fault : (end : End) (status : Status) (before now : BytesTold) (o : Seen) (journal : Journal)
+    → status ≡ status_of end → Says end before now o journal → status ≡ exit.ReadFault → IsIdle One o journal
 idle_fault Done status before now o journal e p h = absurd (omega (arith, ap number_of e, ap number_of h))
 idle_fault Usage status before now o journal e p h = absurd p
 idle_fault Script status before now o journal e p h = absurd (omega (arith, ap number_of e, ap number_of h))
@@ -50,7 +51,7 @@ idle_fault WriteFault status before now o journal e p h = absurd (omega (arith, 
 idle_fault NoMemory status before now o journal e p h = absurd (omega (arith, ap number_of e, ap number_of h))
 
 -- status 3 comes only where the count of the input has risen
-pub read_fault : (end : End) (status : Status) (before now : BytesTold) (o : Seen) (journal : List Event)
+pub read_fault : (end : End) (status : Status) (before now : BytesTold) (o : Seen) (journal : Journal)
     → status ≡ status_of end → Says end before now o journal → status ≡ exit.ReadFault → HasRisen before.faults
     now.faults
 read_fault Done status before now o journal e p h = absurd (omega (arith, ap number_of e, ap number_of h))
@@ -61,7 +62,7 @@ read_fault WriteFault status before now o journal e p h = absurd (omega (arith, 
 read_fault NoMemory status before now o journal e p h = absurd (omega (arith, ap number_of e, ap number_of h))
 
 -- with status 0 all was done and written
-pub done : (end : End) (status : Status) (before now : BytesTold) (o : Seen) (journal : List Event)
+pub done : (end : End) (status : Status) (before now : BytesTold) (o : Seen) (journal : Journal)
     → status ≡ status_of end → Says end before now o journal → status ≡ exit.Done → RanTold Done before.bytes o journal
 done Done status before now o journal e p h = told_ran Done before.bytes o journal p
 done Usage status before now o journal e p h = absurd p
@@ -71,7 +72,7 @@ done WriteFault status before now o journal e p h = absurd (omega (arith, ap num
 done NoMemory status before now o journal e p h = absurd (omega (arith, ap number_of e, ap number_of h))
 
 -- with status 2 a line is refused
-pub script : (end : End) (status : Status) (before now : BytesTold) (o : Seen) (journal : List Event)
+pub script : (end : End) (status : Status) (before now : BytesTold) (o : Seen) (journal : Journal)
     → status ≡ status_of end → Says end before now o journal → status ≡ exit.Refused → RanTold Script before.bytes o
     journal
 script Done status before now o journal e p h = absurd (omega (arith, ap number_of e, ap number_of h))
@@ -82,7 +83,7 @@ script WriteFault status before now o journal e p h = absurd (omega (arith, ap n
 script NoMemory status before now o journal e p h = absurd (omega (arith, ap number_of e, ap number_of h))
 
 -- with status 4 all was done and a front was written
-pub write_fault : (end : End) (status : Status) (before now : BytesTold) (o : Seen) (journal : List Event)
+pub write_fault : (end : End) (status : Status) (before now : BytesTold) (o : Seen) (journal : Journal)
     → status ≡ status_of end → Says end before now o journal → status ≡ exit.WriteFault → RanTold WriteFault
     before.bytes o journal
 write_fault Done status before now o journal e p h = absurd (omega (arith, ap number_of e, ap number_of h))
@@ -93,7 +94,7 @@ write_fault WriteFault status before now o journal e p h = told_ran WriteFault b
 write_fault NoMemory status before now o journal e p h = absurd (omega (arith, ap number_of e, ap number_of h))
 
 -- with status 6 memory ran out
-pub no_memory : (end : End) (status : Status) (before now : BytesTold) (o : Seen) (journal : List Event)
+pub no_memory : (end : End) (status : Status) (before now : BytesTold) (o : Seen) (journal : Journal)
     → status ≡ status_of end → Says end before now o journal → status ≡ exit.NoMemory → RanTold NoMemory before.bytes o
     journal
 no_memory Done status before now o journal e p h = absurd (omega (arith, ap number_of e, ap number_of h))
@@ -104,7 +105,7 @@ no_memory WriteFault status before now o journal e p h = absurd (omega (arith, a
 no_memory NoMemory status before now o journal e p h = told_ran NoMemory before.bytes o journal p
 
 -- status 4 comes only where the count of the output has risen
-pub write_cause : (end : End) (status : Status) (before now : BytesTold) (o : Seen) (journal : List Event)
+pub write_cause : (end : End) (status : Status) (before now : BytesTold) (o : Seen) (journal : Journal)
     → status ≡ status_of end → Says end before now o journal → status ≡ exit.WriteFault → HasRisen o.before.faults
     o.now.faults
 write_cause Done status before now o journal e p h = absurd (omega (arith, ap number_of e, ap number_of h))
@@ -114,14 +115,14 @@ write_cause ReadFault status before now o journal e p h = absurd (omega (arith, 
 write_cause WriteFault status before now o journal e p h = p.2.2.risen
 write_cause NoMemory status before now o journal e p h = absurd (omega (arith, ap number_of e, ap number_of h))
 
-risen_in : (told : Option (List ℕ)) (status : Status) (before now : BytesTold) (o : Seen) (journal : List Event)
+risen_in : (told : Option (List ℕ)) (status : Status) (before now : BytesTold) (o : Seen) (journal : Journal)
     → HasRisen before.faults now.faults
     → IfSome told (λ bytes. IsComplete status (script_of bytes) before now o journal)
 risen_in None status before now o journal r = tt
 risen_in (Some bytes) status before now o journal r = λ none in_ok out_ok. absurd (in_ok r)
 
 -- an input of enabled events with no fault outside is done and written whole, or memory ran out
-pub complete : (end : End) (status : Status) (before now : BytesTold) (o : Seen) (journal : List Event)
+pub complete : (end : End) (status : Status) (before now : BytesTold) (o : Seen) (journal : Journal)
     → status ≡ status_of end → Says end before now o journal → IfSome before.bytes
     (λ bytes. IsComplete status (script_of bytes) before now o journal)
 complete Done status before now o journal e p = told_part Done status before.bytes before now o journal p

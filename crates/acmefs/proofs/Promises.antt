@@ -3,6 +3,7 @@ use Rattle.std.proofs.Common.{◌≡◌, ℕ, List, ◌∙◌, refl, sym, ap, su
 use Rattle.std.specs.Prelude.{string_bytes}
 use Rattle.am_base.specs.Outside.{HasRisen}
 use Rattle.am_base.specs.Seen.{Seen}
+use Rattle.am_journal.specs.declared.event.Format.{Format}
 use Rattle.am_words.specs.declared.asked.Asked.{Asked}
 use Rattle.am_words.specs.declared.asked.Asked.TheVariants as asked
 use Rattle.am_words.specs.declared.asked.Tree.{Tree}
@@ -18,7 +19,7 @@ use Rattle.acmefs.proofs.PackEnds as packs
 use Rattle.acmefs.proofs.Promised as replays
 use Rattle.acmefs.proofs.ServeEnds.{never_usage, serve_read_fault, serve_write_fault}
 use Rattle.acmefs.proofs.TraceEnds as traces
-use Rattle.acmefs.proofs.Words.{asked_once, done_once, known, number, one_number, rounds_once}
+use Rattle.acmefs.proofs.Words.{asked_format, asked_once, done_once, idle_as, known, number, one_number, rounds_once}
 
 module _ {G L S K : Type 0} where
   -- ---- one thing is asked for
@@ -62,8 +63,8 @@ module _ {G L S K : Type 0} where
   no_usage (asked.Do path tree) r of h = does.usage r.status r.objects (tree_name tree) r.given r.output r.served
       of.does h
 
-  read_fault : (a : Asked) (r : Run G L S K) → OfAsked a r → r.status ≡ exit.ReadFault → IsIdle r.output r.journal
-      × HasRisen r.given.input.before.faults r.given.input.now.faults
+  read_fault : (a : Asked) (r : Run G L S K) → OfAsked a r → r.status ≡ exit.ReadFault
+      → IsIdle (asked_format a) r.output r.journal × HasRisen r.given.input.before.faults r.given.input.now.faults
   read_fault asked.Replay r of h =
       let s = of.headline in (
         replays.idle_fault s.0 r.status r.given.input.before r.given.input.now r.output r.journal s.1 s.2 h,
@@ -77,7 +78,7 @@ module _ {G L S K : Type 0} where
   read_fault (asked.Serve path clients) r of h =
       let f = serve_read_fault r.objects (string_bytes path) clients r.given r.output r.journal r.served r.status
       of.serves.0 of.serves.1 of.serves.2 h in
-      (record { silent = f.1.silent; empty = f.1.empty }, f.0)
+      (record { silent = f.1; empty = f.2 }, f.0)
   read_fault (asked.Do path tree) r of h =
       let f = does.read_fault r.status r.objects (tree_name tree) r.given r.output r.served of.does h in
       (record { silent = f.1; empty = of.empty }, f.0)
@@ -105,7 +106,8 @@ module _ {G L S K : Type 0} where
     other = λ unknown. absurd (unknown (known words a x));
     usage = λ h. absurd (no_usage a r of h);
     read_fault = λ h. (read_fault a r of h).1;
-    idle_fault = λ h. (read_fault a r of h).0;
+    idle_fault = λ h. subst (λ (f : Format). IsIdle f r.output r.journal) (sym (idle_as words a x))
+        (read_fault a r of h).0;
     write_cause = write_cause a r of;
   }
 

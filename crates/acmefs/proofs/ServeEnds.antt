@@ -4,7 +4,10 @@ use Rattle.std.proofs.Common.{sym, ap, subst, ⊎_elim, arith}
 use Rattle.std.specs.Prelude.{IfSome}
 use Rattle.std.specs.List.{list_any, AllByRecursion}
 use Rattle.am_base.specs.Outside.{HasRisen}
-use Rattle.am_journal.specs.declared.event.Event.{Event}
+use Rattle.am_journal.specs.declared.event.Format.{Format}
+use Rattle.am_journal.specs.declared.event.Format.TheVariants.{Two}
+use Rattle.am_journal.specs.declared.event.Journal.{Journal}
+use Rattle.am_journal.specs.Journal.{journal_in}
 use Rattle.am_serve.specs.declared.scripting.ScriptEnd.{ScriptEnd}
 use Rattle.am_serve.specs.declared.scripting.ScriptEnd.TheVariants as script
 use Rattle.am_slots.specs.Slots.{Outside}
@@ -15,7 +18,7 @@ use Rattle.am_server.specs.Complete.{IsComplete}
 use Rattle.am_server.specs.Replied.{GotAll}
 use Rattle.am_server.specs.Sound.{EndsWell}
 use Rattle.am_server.proofs.Completing.{says_complete}
-use Rattle.am_replay.proofs.RoundTrip.{AreDone, done-from, none-done}
+use Rattle.am_replay.proofs.RoundTrip.{AreDone, IsDone, enabled-done, none-done}
 use Rattle.acme_core.specs.Run.{IsPossible}
 use Rattle.core_laws.specs.Journals.{JournalsAreLawful}
 use Rattle.acmefs.specs.Top.{OfServe, run}
@@ -92,7 +95,7 @@ module _ {G L S K : Type 0} where
       host_or (list_any has_failed slots) (end_done (list_any wants_untold slots) false) exit.WriteFault
       (λ x. absurd (omega (arith, ap number_of x))) (whole_or (list_any wants_untold slots)) h
 
-  writes_read : (journal : List Event) (slots : List (Slot G L S K)) (s : ScriptEnd) (o : Seen) (e : ServeEnd)
+  writes_read : (journal : Journal) (slots : List (Slot G L S K)) (s : ScriptEnd) (o : Seen) (e : ServeEnd)
       → serve_status e ≡ exit.ReadFault → Writes journal slots s o e → ⊥
   writes_read journal slots s o e h (inl w) = no_read_fault slots s false (ap serve_status (sym w.0) ∙ h)
   writes_read journal slots s o e h (inr (inl w)) = no_read_fault slots s true (ap serve_status (sym w.0) ∙ h)
@@ -102,7 +105,7 @@ module _ {G L S K : Type 0} where
     ap number_of h,
   ))
 
-  writes_fault : (journal : List Event) (slots : List (Slot G L S K)) (s : ScriptEnd) (o : Seen) (e : ServeEnd)
+  writes_fault : (journal : Journal) (slots : List (Slot G L S K)) (s : ScriptEnd) (o : Seen) (e : ServeEnd)
       → serve_status e ≡ exit.WriteFault → Writes journal slots s o e → HasRisen o.before.faults o.now.faults
   writes_fault journal slots s o e h (inl w) = absurd (no_write_fault slots s (ap serve_status (sym w.0) ∙ h))
   writes_fault journal slots s o e h (inr (inl w)) = w.1.risen
@@ -112,16 +115,18 @@ module _ {G L S K : Type 0} where
     ap number_of h,
   ))
 
-  too_long_ends : (o : Seen) (journal : List Event) (served : List (Served G L S K)) (e : ServeEnd)
+  too_long_ends : (o : Seen) (journal : Journal) (served : List (Served G L S K)) (e : ServeEnd)
       → ends.IsTooLong o journal served e → (serve_status e ≡ exit.Refused) ⊎ (serve_status e ≡ exit.NoMemory)
   too_long_ends o journal served e t = ⊎_elim (λ w. inl (ap serve_status w.0)) (λ w. inr (ap serve_status w.0)) t.put
 
   -- status 3 comes only where the input's count has risen
   pub serve_read_fault : (m : Outside G L S K) (path : List ℕ) (clients : ℕ) (i : Given) (o : Seen)
-      (journal : List Event) (served : List (Served G L S K)) (status : Status) (e : ServeEnd)
+      (journal : Journal) (served : List (Served G L S K)) (status : Status) (e : ServeEnd)
       → status ≡ serve_status e → SaysServe m path clients i o journal served e
-      → status ≡ exit.ReadFault → HasRisen i.input.before.faults i.input.now.faults × ends.IsIdle o journal served
-  serve_read_fault m path clients i o journal served status e is (inl s) h = (s.1, s.2)
+      → status ≡ exit.ReadFault → HasRisen i.input.before.faults i.input.now.faults
+      × (o.now.bytes ≡ o.before.bytes) × (journal ≡ journal_in Two [])
+  serve_read_fault m path clients i o journal served status e is (inl s) h =
+      (s.1, s.2.silent, ap (λ (f : Format). journal_in f journal.events) s.3 ∙ ap (journal_in Two) s.2.empty)
   serve_read_fault m path clients i o journal served status e is (inr (inl (long, t))) h =
       ⊎_elim (λ (x : serve_status e ≡ exit.Refused). absurd (omega (
         arith,
@@ -137,7 +142,7 @@ module _ {G L S K : Type 0} where
 
   -- status 4 comes only where the output's count has risen
   pub serve_write_fault : (m : Outside G L S K) (path : List ℕ) (clients : ℕ) (i : Given) (o : Seen)
-      (journal : List Event) (served : List (Served G L S K)) (status : Status) (e : ServeEnd)
+      (journal : Journal) (served : List (Served G L S K)) (status : Status) (e : ServeEnd)
       → status ≡ serve_status e → SaysServe m path clients i o journal served e
       → status ≡ exit.WriteFault → HasRisen o.before.faults o.now.faults
   serve_write_fault m path clients i o journal served status e is (inl s) h =
@@ -156,13 +161,13 @@ module _ {G L S K : Type 0} where
       writes_fault journal s.slots s.done o e (sym is ∙ h) s.writes
 
   -- where nothing was served, no sink lacks a reply
-  pub none_replied : (m : Outside G L S K) (journal : List Event) (served : List (Served G L S K)) → served ≡ []
+  pub none_replied : (m : Outside G L S K) (journal : Journal) (served : List (Served G L S K)) → served ≡ []
       → AllByRecursion (GotAll m journal) served
   none_replied m journal served none = subst (λ (l : List (Served G L S K)). AllByRecursion (GotAll m journal) l)
       (sym none) tt
 
   -- with status 0 and 4 each sink that has not failed got all replies
-  serve_replied : (m : Outside G L S K) (path : List ℕ) (clients : ℕ) (i : Given) (o : Seen) (journal : List Event)
+  serve_replied : (m : Outside G L S K) (path : List ℕ) (clients : ℕ) (i : Given) (o : Seen) (journal : Journal)
       (served : List (Served G L S K)) (status : Status) (e : ServeEnd)
       → status ≡ serve_status e → SaysServe m path clients i o journal served e → (status ≡ exit.Done)
       ⊎ (status ≡ exit.WriteFault) → AllByRecursion (GotAll m journal) served
@@ -174,15 +179,18 @@ module _ {G L S K : Type 0} where
   serve_replied m path clients i o journal served status e is (inr (inr (inr (lines, told, fits, s)))) h =
       s.replied (all_done e status is h)
 
+nothing_done : (journal : Journal) → journal.events ≡ [] → IsDone journal
+nothing_done journal e = subst (AreDone (journal_in journal.format [])) (sym e) tt
+
 module _ {G L S K : Type 0} where
   -- where nothing was served, none ended otherwise
-  pub none_ended : (m : Outside G L S K) (journal : List Event) (served : List (Served G L S K)) → served ≡ []
+  pub none_ended : (m : Outside G L S K) (journal : Journal) (served : List (Served G L S K)) → served ≡ []
       → AllByRecursion (EndsWell m journal) served
   none_ended m journal served none = subst (λ (l : List (Served G L S K)). AllByRecursion (EndsWell m journal) l)
       (sym none) tt
 
   -- a connection with sound objects ends well
-  serve_sound : (m : Outside G L S K) (path : List ℕ) (clients : ℕ) (i : Given) (o : Seen) (journal : List Event)
+  serve_sound : (m : Outside G L S K) (path : List ℕ) (clients : ℕ) (i : Given) (o : Seen) (journal : Journal)
       (served : List (Served G L S K)) (e : ServeEnd)
       → SaysServe m path clients i o journal served e → AllByRecursion (EndsWell m journal) served
   serve_sound m path clients i o journal served e (inl s) = none_ended m journal served s.2.none
@@ -191,16 +199,16 @@ module _ {G L S K : Type 0} where
   serve_sound m path clients i o journal served e (inr (inr (inr (lines, told, fits, s)))) = s.sound
 
   -- the journal's events were enabled, and their numbers fit their fields
-  serve_done : (m : Outside G L S K) (path : List ℕ) (clients : ℕ) (i : Given) (o : Seen) (journal : List Event)
+  serve_done : (m : Outside G L S K) (path : List ℕ) (clients : ℕ) (i : Given) (o : Seen) (journal : Journal)
       (served : List (Served G L S K)) (e : ServeEnd)
-      → SaysServe m path clients i o journal served e → AreDone [] journal
-  serve_done m path clients i o journal served e (inl s) = none-done journal s.2.empty
-  serve_done m path clients i o journal served e (inr (inl (long, t))) = none-done journal t.empty
-  serve_done m path clients i o journal served e (inr (inr (inl w))) = none-done journal w.1.empty
-  serve_done m path clients i o journal served e (inr (inr (inr (lines, told, fits, s)))) = done-from [] journal
+      → SaysServe m path clients i o journal served e → IsDone journal
+  serve_done m path clients i o journal served e (inl s) = nothing_done journal s.2.empty
+  serve_done m path clients i o journal served e (inr (inl (long, t))) = none-done Two journal t.empty
+  serve_done m path clients i o journal served e (inr (inr (inl w))) = nothing_done journal w.1.empty
+  serve_done m path clients i o journal served e (inr (inr (inr (lines, told, fits, s)))) = enabled-done journal
       s.played s.in_range
 
-  complete_as : (m : Outside G L S K) (clients : ℕ) (lines : List ℕ) (i : Given) (o : Seen) (journal : List Event)
+  complete_as : (m : Outside G L S K) (clients : ℕ) (lines : List ℕ) (i : Given) (o : Seen) (journal : Journal)
       (served : List (Served G L S K)) (status : Status) (e : ServeEnd)
       → status ≡ serve_status e → IsComplete m clients lines i o journal served e
       → IsServeComplete status m clients lines i o journal served
@@ -208,7 +216,7 @@ module _ {G L S K : Type 0} where
       (λ w. inr (is ∙ ap serve_status w)) (h n)
 
   -- a script that tells its bytes is done, and its text written, where nothing fails
-  serve_complete : (m : Outside G L S K) (path : List ℕ) (clients : ℕ) (i : Given) (o : Seen) (journal : List Event)
+  serve_complete : (m : Outside G L S K) (path : List ℕ) (clients : ℕ) (i : Given) (o : Seen) (journal : Journal)
       (served : List (Served G L S K)) (status : Status) (e : ServeEnd)
       → status ≡ serve_status e → SaysServe m path clients i o journal served e
       → IfSome i.input.before.bytes (λ bytes. IsServeComplete status m clients bytes i o journal served)
@@ -221,14 +229,14 @@ module _ {G L S K : Type 0} where
           (says_complete m path clients bytes i o journal served e told says)
 
   pub none_complete : (m : Outside G L S K) (clients : ℕ) (told : Option (List ℕ)) (i : Given) (o : Seen)
-      (journal : List Event) (served : List (Served G L S K)) (status : Status)
+      (journal : Journal) (served : List (Served G L S K)) (status : Status)
       → status ≡ exit.NoMemory → IfSome told (λ bytes. IsServeComplete status m clients bytes i o journal served)
   none_complete m clients None i o journal served status is = tt
   none_complete m clients (Some bytes) i o journal served status is = λ h. inr is
 
   -- all that is promised of serving
   pub of_serve : JournalsAreLawful → (m : Outside G L S K) (path : List ℕ) (clients : ℕ) (i : Given) (o : Seen)
-      (journal : List Event) (served : List (Served G L S K)) (status : Status) (e : ServeEnd)
+      (journal : Journal) (served : List (Served G L S K)) (status : Status) (e : ServeEnd)
       → status ≡ serve_status e → SaysServe m path clients i o journal served e → IsPossible journal
       → OfServe path clients (run status m i o journal served)
   of_serve all m path clients i o journal served status e is says possible = record {

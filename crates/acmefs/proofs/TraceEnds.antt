@@ -3,7 +3,9 @@ use Rattle.std.proofs.Common.{◌≡◌, ◌⊎◌, inl, inr, ℕ, List, [], Opt
 use Rattle.std.specs.Prelude.{IfSome}
 use Rattle.am_base.specs.Outside.{BytesTold, AreTold, HasRisen}
 use Rattle.am_base.specs.Seen.{Seen, seen}
-use Rattle.am_journal.specs.declared.event.Event.{Event}
+use Rattle.am_journal.specs.declared.event.Format.TheVariants.{One}
+use Rattle.am_journal.specs.declared.event.Journal.{Journal}
+use Rattle.am_journal.specs.Journal.{journal_in}
 use Rattle.am_replay.specs.declared.replaying.End.{End}
 use Rattle.am_replay.specs.declared.replaying.End.TheVariants.{Done, Usage, Script, ReadFault, WriteFault, NoMemory}
 use Rattle.acmefs.specs.Ends.{status_of}
@@ -13,7 +15,7 @@ use Rattle.am_replay.specs.Scripts.{script_of}
 use Rattle.acmefs.specs.Traces.{IsTraced, TraceEnds}
 use Rattle.am_replay.specs.Traces.{Traces, TracesSome, TraceSays, AllHaveWords, PacksBack}
 use Rattle.am_replay.proofs.PackBack.{packs_back}
-use Rattle.am_replay.proofs.RoundTrip.{AreDone, front-done, none-done, script-done}
+use Rattle.am_replay.proofs.RoundTrip.{IsDone, none-done, part-done, script-done}
 use Rattle.am_replay.proofs.Traced.{says_none}
 use Rattle.acmefs.specs.declared.status.Status.{Status}
 use Rattle.acmefs.specs.declared.status.Status.TheVariants as exit
@@ -21,7 +23,7 @@ use Rattle.acmefs.specs.Statuses.{number_of}
 
 -- ---- its statuses
 
-pub usage : (end : End) (status : Status) (before now : BytesTold) (o : Seen) (journal : List Event)
+pub usage : (end : End) (status : Status) (before now : BytesTold) (o : Seen) (journal : Journal)
     → status ≡ status_of end → TraceSays end before now o journal → status ≡ exit.Usage → ⊥
 usage Done status before now o journal e p h = absurd (omega (arith, ap number_of e, ap number_of h))
 usage Usage status before now o journal e p h = absurd p
@@ -30,8 +32,8 @@ usage ReadFault status before now o journal e p h = absurd (omega (arith, ap num
 usage WriteFault status before now o journal e p h = absurd (omega (arith, ap number_of e, ap number_of h))
 usage NoMemory status before now o journal e p h = absurd (omega (arith, ap number_of e, ap number_of h))
 
-pub read_fault : (end : End) (status : Status) (before now : BytesTold) (o : Seen) (journal : List Event)
-    → status ≡ status_of end → TraceSays end before now o journal → status ≡ exit.ReadFault → IsIdle o journal
+pub read_fault : (end : End) (status : Status) (before now : BytesTold) (o : Seen) (journal : Journal)
+    → status ≡ status_of end → TraceSays end before now o journal → status ≡ exit.ReadFault → IsIdle One o journal
     × HasRisen before.faults now.faults
 read_fault Done status before now o journal e p h = absurd (omega (arith, ap number_of e, ap number_of h))
 read_fault Usage status before now o journal e p h = absurd p
@@ -40,7 +42,7 @@ read_fault ReadFault status before now o journal e p h = p
 read_fault WriteFault status before now o journal e p h = absurd (omega (arith, ap number_of e, ap number_of h))
 read_fault NoMemory status before now o journal e p h = absurd (omega (arith, ap number_of e, ap number_of h))
 
-pub write_cause : (end : End) (status : Status) (before now : BytesTold) (o : Seen) (journal : List Event)
+pub write_cause : (end : End) (status : Status) (before now : BytesTold) (o : Seen) (journal : Journal)
     → status ≡ status_of end → TraceSays end before now o journal → status ≡ exit.WriteFault → HasRisen o.before.faults
     o.now.faults
 write_cause Done status before now o journal e p h = absurd (omega (arith, ap number_of e, ap number_of h))
@@ -53,19 +55,19 @@ write_cause NoMemory status before now o journal e p h = absurd (omega (arith, a
 -- ---- completeness
 
 told_part : (end : End) (status : Status) (told : Option (List ℕ)) (before now : BytesTold) (o : Seen)
-    (journal : List Event) → TracesSome end told o journal
+    (journal : Journal) → TracesSome end told o journal
     → ((script : scripts.Script) → Traces end script o journal → IsTraced status script before now o journal)
     → IfSome told (λ bytes. IsTraced status (script_of bytes) before now o journal)
 told_part end status None before now o journal r f = tt
 told_part end status (Some bytes) before now o journal r f = f (script_of bytes)
     (subst (λ (x : List ℕ). Traces end (script_of x) o journal) (sym r.1) r.2)
 
-risen_in : (told : Option (List ℕ)) (status : Status) (before now : BytesTold) (o : Seen) (journal : List Event)
+risen_in : (told : Option (List ℕ)) (status : Status) (before now : BytesTold) (o : Seen) (journal : Journal)
     → HasRisen before.faults now.faults → IfSome told (λ bytes. IsTraced status (script_of bytes) before now o journal)
 risen_in None status before now o journal r = tt
 risen_in (Some bytes) status before now o journal r = λ none in_ok out_ok. absurd (in_ok r)
 
-complete : (end : End) (status : Status) (before now : BytesTold) (o : Seen) (journal : List Event)
+complete : (end : End) (status : Status) (before now : BytesTold) (o : Seen) (journal : Journal)
     → status ≡ status_of end → TraceSays end before now o journal → IfSome before.bytes
     (λ bytes. IsTraced status (script_of bytes) before now o journal)
 complete Done status before now o journal e p = told_part Done status before.bytes before now o journal p
@@ -81,25 +83,25 @@ complete NoMemory status before now o journal e p = told_part NoMemory status be
 
 -- ---- its events were done
 
-traces-done : (end : End) (script : scripts.Script) (o : Seen) (journal : List Event) → AreDone [] script.events
-    → Traces end script o journal → AreDone [] journal
-traces-done Done script o journal d h = subst (AreDone []) (sym h.0) d
+traces-done : (end : End) (script : scripts.Script) (o : Seen) (journal : Journal) → IsDone script.journal
+    → Traces end script o journal → IsDone journal
+traces-done Done script o journal d h = subst IsDone (sym h.0) d
 traces-done Usage script o journal d h = absurd h
-traces-done Script script o journal d h = subst (AreDone []) (sym h.0) d
+traces-done Script script o journal d h = subst IsDone (sym h.0) d
 traces-done ReadFault script o journal d h = absurd h
-traces-done WriteFault script o journal d h = subst (AreDone []) (sym h.0) d
-traces-done NoMemory script o journal d h = front-done journal h.0.0 [] (subst (AreDone []) (sym h.0.1) d)
+traces-done WriteFault script o journal d h = subst IsDone (sym h.0) d
+traces-done NoMemory script o journal d h = part-done journal script.journal h.0 d
 
-pub says-done : (end : End) (before now : BytesTold) (o : Seen) (journal : List Event)
-    → TraceSays end before now o journal → AreDone [] journal
+pub says-done : (end : End) (before now : BytesTold) (o : Seen) (journal : Journal)
+    → TraceSays end before now o journal → IsDone journal
 says-done Done before now o journal h = traces-done Done (script_of h.0) o journal (script-done h.0) h.2
 says-done Usage before now o journal h = absurd h
 says-done Script before now o journal h = traces-done Script (script_of h.0) o journal (script-done h.0) h.2
-says-done ReadFault before now o journal h = none-done journal h.0.empty
+says-done ReadFault before now o journal h = none-done One journal h.0.empty
 says-done WriteFault before now o journal h = traces-done WriteFault (script_of h.0) o journal (script-done h.0) h.2
 says-done NoMemory before now o journal h = traces-done NoMemory (script_of h.0) o journal (script-done h.0) h.2
 
-done_back : (end : End) (status : Status) (before now : BytesTold) (o : Seen) (journal : List Event)
+done_back : (end : End) (status : Status) (before now : BytesTold) (o : Seen) (journal : Journal)
     → status ≡ status_of end → TraceSays end before now o journal → status ≡ exit.Done → PacksBack journal
 done_back Done status before now o journal e p h = packs_back journal (says-done Done before now o journal p) p.2.3
 done_back Usage status before now o journal e p h = absurd p
@@ -110,7 +112,7 @@ done_back NoMemory status before now o journal e p h = absurd (omega (arith, ap 
 
 -- ---- the whole
 
-pub ends : (end : End) (status : Status) (before now : BytesTold) (o : Seen) (journal : List Event)
+pub ends : (end : End) (status : Status) (before now : BytesTold) (o : Seen) (journal : Journal)
     → status ≡ status_of end → TraceSays end before now o journal → TraceEnds status before now o journal
 ends end status before now o journal e p = record {
   says = (end, e, p);
@@ -119,10 +121,10 @@ ends end status before now o journal e p = record {
 }
 
 -- memory ran out before the words were read
-pub idle : (status : Status) (before now first : BytesTold) (journal : List Event)
-    → status ≡ exit.NoMemory → journal ≡ []
+pub idle : (status : Status) (before now first : BytesTold) (journal : Journal)
+    → status ≡ exit.NoMemory → journal ≡ journal_in One []
     → TraceEnds status before now (seen first first) journal
 idle status before now first journal e none =
     ends NoMemory status before now (seen first first) journal e
-    (subst (λ (j : List Event). TraceSays NoMemory before now (seen first first) j) (sym none)
+    (subst (λ (j : Journal). TraceSays NoMemory before now (seen first first) j) (sym none)
     (says_none before now first))

@@ -3,12 +3,15 @@ use Rattle.std.proofs.Common.{◌≡◌, inl, inr, ℕ, Bool, true, false, cond,
 use Rattle.std.proofs.Common.{sym, ap, subst, arith, codes}
 use Rattle.std.proofs.lemmas.Slice.Eq.{bytes_eq-Decides}
 use Rattle.std.specs.Str.{bytes_eq}
-use Rattle.std.specs.Prelude.{IfSome, IfNone, string_bytes}
+use Rattle.std.specs.Prelude.{IfSome, IfNone, is_some, string_bytes}
+use Rattle.am_journal.specs.declared.event.Format.{Format}
+use Rattle.am_journal.specs.declared.event.Format.TheVariants.{One, Two}
 use Rattle.am_words.specs.declared.asked.Asked.{Asked}
 use Rattle.am_words.specs.declared.asked.Asked.TheVariants as asked
 use Rattle.am_words.specs.declared.asked.Tree.{Tree}
 use Rattle.am_words.specs.Words.{are_alone, are_replay, asks_do, asks_drill, asks_serve, in_two, in_three, rounds_of}
 use Rattle.am_words.specs.Words.{tree_of, with_tree, AsksFor, AreKnown}
+use Rattle.acmefs.specs.Top.{idle_format}
 
 -- what was read is asked for
 pub asked_at : (words list : List (List ℕ)) (read : Option Asked) (x y : Asked) → read ≡ Some x
@@ -106,6 +109,42 @@ is_numbered words (asked.Do path tree) h = ap numbered (do_first words (string_b
 -- what words ask for has one number
 pub one_number : (words : List (List ℕ)) (a b : Asked) → AsksFor words a → AsksFor words b → number a ≡ number b
 one_number words a b x y = sym (is_numbered words a x) ∙ is_numbered words b y
+
+-- ---- the format of the empty journal
+
+-- the format where this is asked for and no line was read
+abbrev pub asked_format : Asked → Format
+asked_format asked.Replay = One
+asked_format asked.Trace = One
+asked_format asked.Pack = One
+asked_format (asked.Drill rounds) = One
+asked_format (asked.Serve path clients) = Two
+asked_format (asked.Do path tree) = One
+
+serves : (a : Asked) → number a ≡ 4 → asked_format a ≡ Two
+serves asked.Replay e = absurd (omega (arith, e))
+serves asked.Trace e = absurd (omega (arith, e))
+serves asked.Pack e = absurd (omega (arith, e))
+serves (asked.Drill rounds) e = absurd (omega (arith, e))
+serves (asked.Serve path clients) e = refl
+serves (asked.Do path tree) e = absurd (omega (arith, e))
+
+serves_none : (words : List (List ℕ)) (a : Asked) → AsksFor words a → asks_serve words ≡ None → asked_format a ≡ One
+serves_none words asked.Replay h e = refl
+serves_none words asked.Trace h e = refl
+serves_none words asked.Pack h e = refl
+serves_none words (asked.Drill rounds) h e = refl
+serves_none words (asked.Serve path clients) h e =
+    absurd (let same : Some (string_bytes path, clients) ≡ None = sym h.0 ∙ e in cc)
+serves_none words (asked.Do path tree) h e = refl
+
+pub idle_as : (words : List (List ℕ)) (a : Asked) → AsksFor words a → idle_format words ≡ asked_format a
+idle_as words a h = by_case (asks_serve words) refl
+  where
+    by_case : (o : Option (List ℕ × ℕ)) → asks_serve words ≡ o → idle_format words ≡ asked_format a
+    by_case None e = ap (λ (o : Option (List ℕ × ℕ)). cond (is_some o) Two One) e ∙ sym (serves_none words a h e)
+    by_case (Some x) e = ap (λ (o : Option (List ℕ × ℕ)). cond (is_some o) Two One) e
+        ∙ sym (serves a (sym (is_numbered words a h) ∙ ap numbered (serve_first words x e)))
 
 -- ---- one thing of each kind
 

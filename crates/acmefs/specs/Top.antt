@@ -1,16 +1,18 @@
 -- What the program promises of a run: a record for each thing that words can ask for, and one of
 -- all words, which says that what they ask for is done as its record has it.
-use Rattle.std.specs.Prelude.{◌≡◌, ◌⊎◌, ℕ, List, [], IfSome, string_bytes}
+use Rattle.std.specs.Prelude.{◌≡◌, ◌⊎◌, ℕ, List, [], IfSome, is_some, if◌then◌else◌, string_bytes}
 use Rattle.std.specs.List.{AllByRecursion}
 use Rattle.am_base.specs.Outside.{HasRisen}
 use Rattle.am_base.specs.Seen.{Given, Seen}
-use Rattle.am_counter.specs.Played.{IsPlayed}
-use Rattle.am_journal.specs.declared.event.Event.{Event}
-use Rattle.am_words.specs.Words.{tree_name, AreKnown, AsksFor}
+use Rattle.am_journal.specs.declared.event.Format.{Format}
+use Rattle.am_journal.specs.declared.event.Format.TheVariants.{One, Two}
+use Rattle.am_journal.specs.declared.event.Journal.{Journal}
+use Rattle.am_journal.specs.Journal.{journal_in}
+use Rattle.am_words.specs.Words.{asks_serve, tree_name, AreKnown, AsksFor}
 use Rattle.am_words.specs.declared.asked.Asked.{Asked}
 use Rattle.am_words.specs.declared.asked.Asked.TheVariants as asked
 use Rattle.am_words.specs.declared.asked.Tree.{Tree}
-use Rattle.acme_core.specs.Run.{enabled}
+use Rattle.acme_core.specs.Run.{AreEnabled}
 use Rattle.core_laws.specs.Journals.{JournalLaws}
 use Rattle.am_slots.specs.Slots.{Outside}
 use Rattle.am_server.specs.Ends.{SaysServe}
@@ -38,13 +40,13 @@ pub record Run (G L S K : Type 0) : Type 0 where
   pub objects : Outside G L S K
   pub given : Given
   pub output : Seen
-  pub journal : List Event
+  pub journal : Journal
   pub served : List (Served G L S K)
 
 -- of each journal whose events were done: all but that of packing
-pub record OfJournal (journal : List Event) : Type 0 where
+pub record OfJournal (journal : Journal) : Type 0 where
   -- Each event is lawful, and was enabled at its place.
-  pub played : IsPlayed enabled journal
+  pub played : AreEnabled journal
   -- The journal's lines and then its report ask for the journal's events again, and are a
   -- transcript, where they aren't too long, that gives the same report.
   pub round_trip : RoundTrips journal
@@ -52,8 +54,12 @@ pub record OfJournal (journal : List Event) : Type 0 where
   -- and the others.
   pub laws : JournalLaws journal
 
+-- the format of the empty journal where no line was read: 2 where the words ask for serving, else 1
+abbrev pub idle_format : List (List ℕ) → Format
+idle_format words = if is_some (asks_serve words) then Two else One
+
 module _ {G L S K : Type 0} where
-  abbrev pub run : Status → Outside G L S K → Given → Seen → List Event → List (Served G L S K)
+  abbrev pub run : Status → Outside G L S K → Given → Seen → Journal → List (Served G L S K)
       → Run G L S K
   run status objects given output journal served = record {
     status = status;
@@ -68,7 +74,7 @@ module _ {G L S K : Type 0} where
   pub record OfOther (r : Run G L S K) : Type 0 where
     pub usage : r.status ≡ exit.Usage
     pub unread : r.given.input.now.bytes ≡ r.given.input.before.bytes
-    pub idle : IsIdle r.output r.journal
+    pub idle : IsIdle One r.output r.journal
     pub unserved : r.served ≡ []
     pub journal : OfJournal r.journal
 
@@ -147,7 +153,7 @@ module _ {G L S K : Type 0} where
     -- The link of the client that is told of was dialled at the path, and the host gave no other.
     pub dialled : AsksAt r.objects path r.given.host r.served
     -- No journal is kept.
-    pub empty : r.journal ≡ []
+    pub empty : r.journal ≡ journal_in One []
     pub journal : OfJournal r.journal
 
   -- by what is asked for
@@ -169,7 +175,7 @@ module _ {G L S K : Type 0} where
     -- Status 3 comes only where the input's count of faults rose; then nothing is written or done.
     pub read_fault : r.status ≡ exit.ReadFault
         → HasRisen r.given.input.before.faults r.given.input.now.faults
-    pub idle_fault : r.status ≡ exit.ReadFault → IsIdle r.output r.journal
+    pub idle_fault : r.status ≡ exit.ReadFault → IsIdle (idle_format words) r.output r.journal
     -- Status 4 comes only where the output's count rose.
     pub write_cause : r.status ≡ exit.WriteFault
         → HasRisen r.output.before.faults r.output.now.faults

@@ -78,7 +78,7 @@ fn packed<I: Source, O: Sink, H: Host>(alloc: Global, input: &mut I, output: &mu
     ensures says { (end : _) × (result.status ≡ pack_status end)
         × PackSays end (I.told input.old) (I.told input.new)
         (seen (O.told output.old) (O.told output.new)) result.journal }
-    ensures spelled { AreSpelled result.journal }
+    ensures spelled { AreSpelled result.journal.events }
     ensures unserved { result.served ≡ [] }
 {
     let ended = pack(alloc, input, output);

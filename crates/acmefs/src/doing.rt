@@ -12,7 +12,8 @@ use crate::outcome::{Outcome, idle};
 use crate::status::Status;
 use am_base::{Host, Sink, Source};
 use am_do::{DoEnd, Doing, Stop, do_path};
-use am_replay::End;
+use am_journal::Format;
+use am_replay::{End, empty_journal};
 use am_server::{Served, ServedEnd};
 use am_text::Items;
 use am_words::Tree;
@@ -162,7 +163,7 @@ pub fn do_main<I: Source, O: Sink, H: Host>(
     let doing = do_path(alloc, path, name_of(tree), input, output, host);
     Outcome {
         status: do_status(doing.end),
-        journal: Items::new(alloc),
+        journal: empty_journal(alloc, Format::One),
         served: listed(entry_of(doing), room),
     }
 }

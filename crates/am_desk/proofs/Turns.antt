@@ -1,7 +1,11 @@
 -- What a turn makes of what a seat knows.
-use Rattle.std.proofs.Common.{◌≡◌, Bool, true, false, List, [], Option, Some, None, ap, sym, subst, ◌∙◌}
+use Rattle.std.proofs.Common.{◌≡◌, ℕ, Bool, true, false, List, [], Option, Some, None, refl, ap, sym, subst, ◌∙◌}
 use Rattle.std.proofs.lemmas.List.{append-nil}
 use Rattle.am_journal.specs.declared.event.Event.{Event}
+use Rattle.am_journal.specs.declared.event.Format.{Format}
+use Rattle.am_journal.specs.declared.event.Format.TheVariants.{One, Two}
+use Rattle.am_journal.specs.declared.event.Journal.{Journal}
+use Rattle.am_journal.specs.Journal.{journal_in}
 use Rattle.am_counter.specs.Known.{Known, Looks, TakesIn, with_entry}
 use Rattle.am_counter.specs.Played.{IsPrefix}
 use Rattle.turn_lock.specs.declared.turn.Stay.{Stay}
@@ -10,7 +14,7 @@ use Rattle.turn_lock.specs.Views.{view, with_turn, after_note, after_leave, afte
 use Rattle.turn_lock.specs.Words.{value_aside}
 use Rattle.am_desk.specs.declared.settled.Settled.{Settled}
 use Rattle.am_desk.specs.Desks.{known_in}
-use Rattle.am_desk.specs.Journals.{journal_of, number_of}
+use Rattle.am_desk.specs.Journals.{entries_of, format_with, number_in, number_of}
 use Rattle.am_desk.specs.Staying.{Stays}
 
 -- ---- a turn that is kept
@@ -23,22 +27,22 @@ pub idle_view : (v : View Event) → v.turn ≡ false → v ≡ after_leave v
 idle_view v h = ap (λ (b : Bool). view v.parts v.number b v.seen v.mine v.ended v.past) h
 
 same_turn : (s t : Stay Settled) (v : View Event) → Stays (Some s) v
-    → s ≡ t → v ≡ with_turn v (journal_of (value_aside t))
+    → s ≡ t → v ≡ with_turn v (entries_of (value_aside t))
 same_turn s t v h e =
     ap (λ (b : Bool). view v.parts v.number b v.seen v.mine v.ended v.past) h.0
-    ∙ ap (λ (l : List Event). with_turn v l) (sym h.1 ∙ ap (λ (x : Stay Settled). journal_of (value_aside x)) e)
+    ∙ ap (λ (l : List Event). with_turn v l) (sym h.1 ∙ ap (λ (x : Stay Settled). entries_of (value_aside x)) e)
 
 pub kept_turn : (stay : Option (Stay Settled)) (s : Stay Settled) (v : View Event) → Stays stay v → stay ≡ Some s
-    → v ≡ with_turn v (journal_of (value_aside s))
+    → v ≡ with_turn v (entries_of (value_aside s))
 kept_turn None s v h e = absurd cc
 kept_turn (Some x) s v h e = let same : x ≡ s = cc in same_turn x s v h same
 
 same_seen : (s t : Stay Settled) (v : View Event) → Stays (Some s) v
-    → s ≡ t → IsPrefix v.seen (journal_of (value_aside t))
-same_seen s t v h e = ([], append-nil v.seen ∙ sym h.1 ∙ ap (λ (x : Stay Settled). journal_of (value_aside x)) e)
+    → s ≡ t → IsPrefix v.seen (entries_of (value_aside t))
+same_seen s t v h e = ([], append-nil v.seen ∙ sym h.1 ∙ ap (λ (x : Stay Settled). entries_of (value_aside x)) e)
 
 pub kept_seen : (stay : Option (Stay Settled)) (s : Stay Settled) (v : View Event) → Stays stay v → stay ≡ Some s
-    → IsPrefix v.seen (journal_of (value_aside s))
+    → IsPrefix v.seen (entries_of (value_aside s))
 kept_seen None s v h e = absurd cc
 kept_seen (Some x) s v h e = let same : x ≡ s = cc in same_seen x s v h same
 
@@ -47,11 +51,11 @@ pub has_turn : (stay : Option (Stay Settled)) (s : Stay Settled) (v : View Event
 has_turn None s v h e = absurd cc
 has_turn (Some x) s v h e = h.0
 
-same_noted : (s t : Stay Settled) (v : View Event) → Stays (Some s) v → s ≡ t → journal_of (value_aside t) ≡ v.seen
-same_noted s t v h e = ap (λ (x : Stay Settled). journal_of (value_aside x)) (sym e) ∙ h.1
+same_noted : (s t : Stay Settled) (v : View Event) → Stays (Some s) v → s ≡ t → entries_of (value_aside t) ≡ v.seen
+same_noted s t v h e = ap (λ (x : Stay Settled). entries_of (value_aside x)) (sym e) ∙ h.1
 
 pub has_noted : (stay : Option (Stay Settled)) (s : Stay Settled) (v : View Event) → Stays stay v → stay ≡ Some s
-    → journal_of (value_aside s) ≡ v.seen
+    → entries_of (value_aside s) ≡ v.seen
 has_noted None s v h e = absurd cc
 has_noted (Some x) s v h e = let same : x ≡ s = cc in same_noted x s v h same
 
@@ -62,6 +66,20 @@ pub has_number : (stay : Option (Stay Settled)) (s : Stay Settled) (v : View Eve
     → number_of (value_aside s) ≡ v.number
 has_number None s v h e = absurd cc
 has_number (Some x) s v h e = let same : x ≡ s = cc in same_number x s v h same
+
+-- ---- the format that a number tells
+
+same_format : (format : Format) → format ≡ format_with (number_in format)
+same_format One = refl
+same_format Two = refl
+
+pub number_tells : (number : ℕ) (format : Format) → number ≡ number_in format → format_with number ≡ format
+number_tells number format e = ap format_with e ∙ sym (same_format format)
+
+pub number_fits : (journal : Journal) (number : ℕ) → number_in journal.format ≡ number
+    → journal ≡ journal_in (format_with number) journal.events
+number_fits journal number e =
+    ap (λ (f : Format). journal_in f journal.events) (same_format journal.format ∙ ap format_with e)
 
 -- ---- what is known
 

@@ -1,6 +1,5 @@
 -- What a seat knows, and what the calls of a desk do to it.
-use Rattle.std.specs.Prelude.{◌≡◌, ℕ, ◌+◌, ◌-◌, List, [], ◌∷◌, ◌++◌, length, Bool, true, false}
-use Rattle.am_journal.specs.declared.event.Event.{Event}
+use Rattle.std.specs.Prelude.{◌≡◌, ℕ, ◌+◌, [], ◌∷◌, ◌++◌, length, Bool, true, false}
 use Rattle.am_counter.specs.declared.ask.Taken.{Taken}
 use Rattle.am_counter.specs.declared.ask.Taken.TheVariants.{NothingYet, Ended}
 use Rattle.am_counter.specs.Known.{Known, lists_of}

@@ -4,3 +4,4 @@ pub mod Desks
 pub mod Replies
 pub mod Ranged
 pub mod Staying
+pub mod Serving

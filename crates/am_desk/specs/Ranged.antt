@@ -6,7 +6,7 @@ use Rattle.std.proofs.Props.{props}
 use Rattle.ninep_types.specs.declared.message.TBody.{TBody}
 use Rattle.ninep_types.specs.declared.message.TBody.TheVariants as t
 use Rattle.ninep_types.specs.declared.message.TMsg.{TMsg}
-use Rattle.ninep_types.specs.Spelling.{BodyInRange_t, InRange_t, spelling_t}
+use Rattle.ninep_types.specs.Spelling.{BodyInRange_t, InRange_t}
 use Rattle.am_journal.specs.declared.event.Event.{Event}
 use Rattle.am_journal.specs.declared.event.Event.TheVariants as event
 use Rattle.am_journal.specs.Lawful.{AreBytes, IsInRange}

@@ -6,21 +6,22 @@ ghost use Rattle.turn_lock.specs.Words.{view_of, lock_of, value_of};
 ghost use Rattle.turn_lock.specs.Views.{with_turn, after_leave};
 ghost use Rattle.turn_lock.specs.Journal.{AllStand};
 ghost use Rattle.turn_lock.specs.Kinds.{KeepsOrder};
+ghost use Rattle.am_journal.specs.Journal.{journal_in};
 ghost use Rattle.am_journal.specs.Lawful.{IsLawful, IsInRange};
 ghost use Rattle.am_counter.specs.declared.ask.Ask.TheVariants as ask;
 ghost use Rattle.am_counter.specs.declared.ask.Taken.TheVariants as taken;
 ghost use Rattle.am_counter.specs.Known.{Looks, Submits, TakesBytes, without_parts, new_known, lists_of, TakesIn};
 ghost use Rattle.am_counter.specs.Played.{IsPlayed, IsPrefix, IsHang, IsWhy, Refuses};
 ghost use Rattle.am_counter.specs.Telling.{with_told};
-ghost use Rattle.acme_core.specs.Asks.{answer_at};
-ghost use Rattle.acme_core.specs.Run.{enabled, output_at, settled};
-ghost use Rattle.am_desk.specs.Journals.{journal_of, number_of};
+ghost use Rattle.acme_core.specs.Asks.{answers_in};
+ghost use Rattle.acme_core.specs.Run.{enabled_in, output_in, settled};
+ghost use Rattle.am_desk.specs.Journals.{entries_of, format_with, journal_of, number_of};
 ghost use Rattle.am_desk.specs.Knowing.{first_known, joined, EachOnce};
-ghost use Rattle.am_desk.specs.Replies.{told_by};
+ghost use Rattle.am_desk.specs.Replies.{told_in};
 ghost use Rattle.am_desk.specs.Staying.{Stays, stays-prop};
 
 use crate::settled::Settled;
-use acme_core::{Ask, Bytes, Core, Event, NoMemory, Refused};
+use acme_core::{Ask, Bytes, Core, Event, Format, NoMemory, Refused};
 use am_counter::{Taken, Told};
 use std::alloc::Global;
 use std::sync::Wait;
@@ -49,16 +50,18 @@ fn is_message(event: &Event) -> bool {
 }
 
 impl Desk {
-    ghost use Rattle.am_desk.specs.Desks.{desk_id, desk_parts, seat_lock, known_in, known_of};
+    ghost use Rattle.am_desk.specs.Desks.{desk_id, desk_parts, seat_format, seat_lock, known_in, known_of};
 
-    /// A desk with the empty editor, and its first seat, which has all parts. Only want of memory refuses it.
-    pub fn new(alloc: Global, parts: u64) -> Result<(Desk, DeskSeat), NoMemory>
+    /// A desk with the empty editor, whose journal will be of this format, and its first seat, which has all parts.
+    /// Only want of memory refuses it.
+    pub fn new(alloc: Global, format: Format, parts: u64) -> Result<(Desk, DeskSeat), NoMemory>
         requires { 1 ≤ parts }
         ensures lock { IfOk result (λ made. seat_lock made.1 ≡ desk_id made.0) }
         ensures parts { IfOk result (λ made. desk_parts made.0 ≡ parts) }
+        ensures format { IfOk result (λ made. seat_format made.1 ≡ format) }
         ensures known { IfOk result (λ made. known_of made.1 ≡ first_known parts) }
     {
-        let (turn, seat) = Turn::new(alloc, Settled::new(alloc)?, parts)?;
+        let (turn, seat) = Turn::new(alloc, Settled::new(alloc, format)?, parts)?;
         Ok((Desk { turn }, DeskSeat { seat, stay: None }))
     }
 
@@ -73,8 +76,10 @@ impl Desk {
         requires stays { Stays stay.old (view_of place.old) }
         ensures lock { lock_of place.new ≡ lock_of place.old }
         ensures none { stay.new ≡ None }
-        ensures view { view_of place.new ≡ with_turn (view_of place.old) (journal_of (value_of result)) }
-        ensures seen { IsPrefix (view_of place.old).seen (journal_of (value_of result)) }
+        ensures view { view_of place.new ≡ with_turn (view_of place.old) (entries_of (value_of result)) }
+        ensures seen { IsPrefix (view_of place.old).seen (entries_of (value_of result)) }
+        ensures journal { journal_of (value_of result)
+            ≡ journal_in (format_with (view_of place.old).number) (entries_of (value_of result)) }
         ensures number { number_of (value_of result) ≡ (view_of place.old).number }
     {
         match stay.take() {
@@ -94,10 +99,11 @@ impl Desk {
         requires lock { lock_of place.old ≡ desk_id self.now }
         requires turn { (view_of place.old).turn ≡ true }
         requires none { stay.old ≡ None }
-        requires noted { journal_of (value_of held) ≡ (view_of place.old).seen }
+        requires noted { entries_of (value_of held) ≡ (view_of place.old).seen }
         requires number { number_of (value_of held) ≡ (view_of place.old).number }
         ensures lock { lock_of place.new ≡ lock_of place.old }
         ensures known { known_in (view_of place.new) ≡ known_in (view_of place.old) }
+        ensures number { (view_of place.new).number ≡ (view_of place.old).number }
         ensures stays { Stays stay.new (view_of place.new) }
     {
         if keeps {
@@ -125,6 +131,7 @@ impl Desk {
         requires lock { seat_lock seat ≡ desk_id self.now }
         ensures lock { lock_of result ≡ seat_lock seat }
         ensures known { known_in (view_of result) ≡ known_of seat }
+        ensures number { (view_of result).number ≡ (view_of seat.seat).number }
         ensures idle { (view_of result).turn ≡ false }
     {
         let DeskSeat {
@@ -149,11 +156,15 @@ impl Desk {
         requires lawful { IsLawful event }
         requires in_range { IsInRange event }
         ensures lock { seat_lock seat.new ≡ seat_lock seat.old }
-        ensures played { IsPlayed enabled (known_of seat.new).seen }
-        ensures ok { IfOk result (λ n. Submits enabled (known_of seat.old) event n (known_of seat.new)) }
+        ensures format { seat_format seat.new ≡ seat_format seat.old }
+        ensures played { IsPlayed (enabled_in (seat_format seat.old)) (known_of seat.new).seen }
+        ensures ok { IfOk result (λ n. Submits (enabled_in (seat_format seat.old)) (known_of seat.old) event n
+            (known_of seat.new)) }
         ensures err { OnErr result (Looks (known_of seat.old) (known_of seat.new)) }
-        ensures refused { IfErr result (λ e. Refuses e (enabled (known_of seat.new).seen event)) }
-        ensures told { OnOk result (told.new.are ≡ with_told told.old.are (told_by (known_of seat.new).seen)) }
+        ensures refused { IfErr result (λ e. Refuses e
+            (enabled_in (seat_format seat.old) (known_of seat.new).seen event)) }
+        ensures told { OnOk result (told.new.are
+            ≡ with_told told.old.are (told_in (seat_format seat.old) (known_of seat.new).seen)) }
         ensures untold { OnErr result (told.new ≡ told.old) }
         // A hang-up is never refused for memory.
         ensures hang { IsHang event → IfErr result IsWhy }
@@ -185,14 +196,17 @@ impl Desk {
     ) -> Result<Taken, NoMemory>
         requires lock { seat_lock seat.old ≡ desk_id self.now }
         ensures lock { seat_lock seat.new ≡ seat_lock seat.old }
-        ensures played { IsPlayed enabled (known_of seat.new).seen }
-        ensures bytes { result ≡ Ok taken.Bytes → TakesBytes enabled output_at (known_of seat.old) conn into.new
-            (known_of seat.new) }
+        ensures format { seat_format seat.new ≡ seat_format seat.old }
+        ensures played { IsPlayed (enabled_in (seat_format seat.old)) (known_of seat.new).seen }
+        ensures bytes { result ≡ Ok taken.Bytes → TakesBytes (enabled_in (seat_format seat.old))
+            (output_in (seat_format seat.old)) (known_of seat.old) conn into.new (known_of seat.new) }
         ensures nothing_yet { result ≡ Ok taken.NothingYet → Looks (known_of seat.old) (known_of seat.new)
             × (into.new ≡ into.old)
-            × (answer_at (known_of seat.new).seen (ask.Ended conn) ≡ false) × (output_at (known_of seat.new).seen conn ≡ []) }
+            × (answers_in (seat_format seat.old) (known_of seat.new).seen (ask.Ended conn) ≡ false)
+            × (output_in (seat_format seat.old) (known_of seat.new).seen conn ≡ []) }
         ensures ended { result ≡ Ok taken.Ended → Looks (known_of seat.old) (known_of seat.new) × (into.new ≡ into.old)
-            × (answer_at (known_of seat.new).seen (ask.Ended conn) ≡ true) × (output_at (known_of seat.new).seen conn ≡ []) }
+            × (answers_in (seat_format seat.old) (known_of seat.new).seen (ask.Ended conn) ≡ true)
+            × (output_in (seat_format seat.old) (known_of seat.new).seen conn ≡ []) }
         ensures err { OnErr result (Looks (known_of seat.old) (known_of seat.new) × (into.new ≡ into.old)) }
     {
         let mut held = self.enter(rt, &mut seat.seat, &mut seat.stay);
@@ -221,9 +235,10 @@ impl Desk {
     pub fn look<R: Wait>(&self, rt: &R, seat: &mut DeskSeat, ask: Ask) -> bool
         requires { seat_lock seat.old ≡ desk_id self.now }
         ensures lock { seat_lock seat.new ≡ seat_lock seat.old }
-        ensures played { IsPlayed enabled (known_of seat.new).seen }
+        ensures format { seat_format seat.new ≡ seat_format seat.old }
+        ensures played { IsPlayed (enabled_in (seat_format seat.old)) (known_of seat.new).seen }
         ensures seen { Looks (known_of seat.old) (known_of seat.new) }
-        ensures answer { result ≡ answer_at (known_of seat.new).seen ask }
+        ensures answer { result ≡ answers_in (seat_format seat.old) (known_of seat.new).seen ask }
     {
         let mut held = self.enter(rt, &mut seat.seat, &mut seat.stay);
         let answer = held.value().look(ask);
@@ -236,7 +251,9 @@ impl Desk {
         requires lock { seat_lock seat.old ≡ desk_id self.now }
         requires parts { (1 ≤ parts) × (parts < (known_of seat.old).parts) }
         ensures lock { seat_lock seat.new ≡ seat_lock seat.old }
+        ensures format { seat_format seat.new ≡ seat_format seat.old }
         ensures new_lock { seat_lock result ≡ seat_lock seat.old }
+        ensures new_format { seat_format result ≡ seat_format seat.old }
         ensures known { known_of seat.new ≡ without_parts parts (known_of seat.old) }
         ensures new { known_of result ≡ new_known parts (known_of seat.old) }
     {
@@ -249,6 +266,7 @@ impl Desk {
     pub fn join(&self, seat: &mut DeskSeat, other: DeskSeat)
         requires lock { (seat_lock seat.old ≡ desk_id self.now) × (seat_lock other ≡ desk_id self.now) }
         ensures lock { seat_lock seat.new ≡ seat_lock seat.old }
+        ensures format { seat_format seat.new ≡ seat_format seat.old }
         ensures known { known_of seat.new ≡ joined (known_of seat.old) (known_of other) }
     {
         let other = self.idle(other);
@@ -261,7 +279,8 @@ impl Desk {
     pub fn take_in<R: Wait>(&self, rt: &R, seat: &mut DeskSeat, other: DeskSeat)
         requires lock { (seat_lock seat.old ≡ desk_id self.now) × (seat_lock other ≡ desk_id self.now) }
         ensures lock { seat_lock seat.new ≡ seat_lock seat.old }
-        ensures played { IsPlayed enabled (known_of seat.new).seen }
+        ensures format { seat_format seat.new ≡ seat_format seat.old }
+        ensures played { IsPlayed (enabled_in (seat_format seat.old)) (known_of seat.new).seen }
         ensures known { TakesIn (known_of seat.old) (known_of other) (known_of seat.new) }
     {
         let other = self.idle(other);
@@ -278,8 +297,8 @@ impl Desk {
     pub fn close(self, seat: DeskSeat) -> Core
         requires lock { seat_lock seat ≡ desk_id self }
         requires whole { (known_of seat).parts ≡ desk_parts self }
-        ensures journal { result ≡ settled (known_of seat).seen }
-        ensures played { IsPlayed enabled (known_of seat).seen }
+        ensures journal { result ≡ settled (journal_in (seat_format seat) (known_of seat).seen) }
+        ensures played { IsPlayed (enabled_in (seat_format seat)) (known_of seat).seen }
         ensures in_range { AllByRecursion IsInRange (known_of seat).seen }
         ensures own { AllStand (known_of seat).seen (lists_of (known_of seat)) }
         ensures once { EachOnce (known_of seat) }

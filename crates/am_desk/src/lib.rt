@@ -3,9 +3,11 @@
 
 mod counting;
 mod desk;
+mod serving;
 mod settled;
 
-pub use acme_core::{Core, Event, NoMemory, Refused, Why};
+pub use acme_core::{Core, Event, Format, NoMemory, Refused, Why};
 pub use am_counter::{Ask, Counter, Taken, Told};
 pub use am_text::Bytes;
 pub use desk::{Desk, DeskSeat};
+pub use serving::{ServingDesk, ServingSeat};

@@ -4,19 +4,19 @@ ghost use Rattle.std.specs.Prelude.{◌≡◌, ◌≢◌, ◌+◌, ◌<◌, ◌^
 ghost use Rattle.std.specs.Prelude.{true, false};
 ghost use Rattle.std.specs.List.{AllByRecursion};
 ghost use Rattle.am_journal.specs.declared.event.Event.TheVariants.{Took};
+ghost use Rattle.am_journal.specs.Journal.{journal_in, longer};
 ghost use Rattle.am_journal.specs.Lawful.{IsLawful, IsInRange};
 ghost use Rattle.am_counter.specs.declared.ask.Ask.TheVariants as ask;
 ghost use Rattle.am_counter.specs.declared.ask.Taken.TheVariants as taken;
-ghost use Rattle.am_counter.specs.Played.{IsPlayed};
 ghost use Rattle.am_counter.specs.Telling.{with_told};
 ghost use Rattle.acme_core.specs.Asks.{answer_at};
-ghost use Rattle.acme_core.specs.Run.{enabled, output_at, settled, Refuses, IsHang, IsWhy};
+ghost use Rattle.acme_core.specs.Run.{enabled, output_at, settled, AreEnabled, Refuses, IsHang, IsWhy};
 ghost use Rattle.am_journal.specs.Limits.{connection_count};
 ghost use Rattle.am_desk.specs.Knowing.{nothing_taken};
 ghost use Rattle.am_desk.specs.Ranged.{ranged-prop};
 ghost use Rattle.am_desk.specs.Replies.{told_by};
 
-use acme_core::{Ask, Bytes, Core, Event, Items, NoMemory, Refused};
+use acme_core::{Ask, Bytes, Core, Event, Format, Items, NoMemory, Refused};
 use am_counter::{Taken, Told};
 use am_journal::CONNECTIONS;
 use std::alloc::Global;
@@ -28,9 +28,9 @@ use turn_lock::Kept;
 pub struct Settled {
     alloc: Global,
     core: Box<Core>,
-    ghost few: { length core.value.journal < 2 ^ 64 },
+    ghost few: { length core.value.journal.events < 2 ^ 64 },
     ghost idle: { core.value.planned ≡ None },
-    ghost in_range: { AllByRecursion IsInRange core.value.journal } by { ranged-prop core.value.journal },
+    ghost in_range: { AllByRecursion IsInRange core.value.journal.events } by { ranged-prop core.value.journal.events },
 }
 
 // What came of a take where there is nothing to take.
@@ -56,11 +56,11 @@ fn tell(core: &Core, told: &mut Told)
 }
 
 impl Kept for Settled {
-    ghost use Rattle.am_desk.specs.Journals.{journal_of, number_of};
+    ghost use Rattle.am_desk.specs.Journals.{entries_of, number_of};
 
     type Entry = Event;
 
-    ghost entries = { journal_of };
+    ghost entries = { entries_of };
 
     ghost number = { number_of };
 
@@ -68,14 +68,14 @@ impl Kept for Settled {
 }
 
 impl Settled {
-    ghost use Rattle.am_desk.specs.Journals.{journal_of};
+    ghost use Rattle.am_desk.specs.Journals.{journal_of, number_of};
 
-    /// The empty editor.
+    /// The empty editor, whose journal will be of this format.
     #[tactic(auto, using(crate::proofs::Ranges::ranges))]
-    pub fn new(alloc: Global) -> Result<Settled, NoMemory>
-        ensures { IfOk result (λ settled. journal_of settled ≡ []) }
+    pub fn new(alloc: Global, format: Format) -> Result<Settled, NoMemory>
+        ensures { IfOk result (λ settled. journal_of settled ≡ journal_in format []) }
     {
-        let core = Box::new(alloc, Core::new(alloc)?)?;
+        let core = Box::new(alloc, Core::new(alloc, format)?)?;
         Ok(Settled { alloc, core })
     }
 
@@ -85,15 +85,16 @@ impl Settled {
         requires lawful { IsLawful event }
         requires in_range { IsInRange event }
         ensures ok { IfOk result (λ n. (enabled (journal_of self.old) event ≡ None)
-            × (n ≡ length (journal_of self.old) + 1)) }
-        ensures done { OnOk result (journal_of self.new ≡ journal_of self.old ++ event ∷ []) }
+            × (n ≡ length (journal_of self.old).events + 1)) }
+        ensures done { OnOk result (journal_of self.new ≡ longer (journal_of self.old) event) }
         ensures refused { IfErr result (λ e. Refuses e (enabled (journal_of self.old) event)) }
         ensures err { OnErr result (journal_of self.new ≡ journal_of self.old) }
         ensures hang { IsHang event → IfErr result IsWhy }
-        ensures played { IsPlayed enabled (journal_of self.new) }
+        ensures number { number_of self.new ≡ number_of self.old }
+        ensures played { AreEnabled (journal_of self.new) }
     {
         let answer = self.core.step(event);
-        let _entries = self.core.journal().len();
+        let _entries = self.core.events().len();
         self.core.events_were_enabled();
         answer
     }
@@ -103,12 +104,13 @@ impl Settled {
         requires lawful { IsLawful event }
         requires in_range { IsInRange event }
         ensures ok { IfOk result (λ n. (enabled (journal_of self.old) event ≡ None)
-            × (n ≡ length (journal_of self.old) + 1)) }
-        ensures done { OnOk result (journal_of self.new ≡ journal_of self.old ++ event ∷ []) }
+            × (n ≡ length (journal_of self.old).events + 1)) }
+        ensures done { OnOk result (journal_of self.new ≡ longer (journal_of self.old) event) }
         ensures refused { IfErr result (λ e. Refuses e (enabled (journal_of self.old) event)) }
         ensures err { OnErr result (journal_of self.new ≡ journal_of self.old) }
         ensures hang { IsHang event → IfErr result IsWhy }
-        ensures played { IsPlayed enabled (journal_of self.new) }
+        ensures number { number_of self.new ≡ number_of self.old }
+        ensures played { AreEnabled (journal_of self.new) }
         ensures told { OnOk result (told.new.are ≡ with_told told.old.are (told_by (journal_of self.new))) }
         ensures untold { OnErr result (told.new ≡ told.old) }
     {
@@ -124,7 +126,7 @@ impl Settled {
     /// The answer to a question.
     pub fn look(&self, ask: Ask) -> bool
         ensures answer { result ≡ answer_at (journal_of self.now) ask }
-        ensures played { IsPlayed enabled (journal_of self.now) }
+        ensures played { AreEnabled (journal_of self.now) }
     {
         self.core.events_were_enabled();
         self.core.look(ask)
@@ -140,8 +142,9 @@ impl Settled {
     // Takes the unsent replies of one of the connections that there are.
     fn take_within(&mut self, conn: u32, into: &mut Bytes) -> Result<Taken, NoMemory>
         requires { conn < connection_count }
-        ensures played { IsPlayed enabled (journal_of self.new) }
-        ensures bytes { result ≡ Ok taken.Bytes → (journal_of self.new ≡ journal_of self.old ++ Took conn ∷ [])
+        ensures number { number_of self.new ≡ number_of self.old }
+        ensures played { AreEnabled (journal_of self.new) }
+        ensures bytes { result ≡ Ok taken.Bytes → (journal_of self.new ≡ longer (journal_of self.old) (Took conn))
             × (enabled (journal_of self.old) (Took conn) ≡ None)
             × (into.new ≡ output_at (journal_of self.old) conn) × (output_at (journal_of self.old) conn ≢ []) }
         ensures nothing_yet { result ≡ Ok taken.NothingYet → (journal_of self.new ≡ journal_of self.old)
@@ -167,8 +170,9 @@ impl Settled {
 
     /// Takes the unsent replies of a connection into `into`, if there are any.
     pub fn take(&mut self, conn: u32, into: &mut Bytes) -> Result<Taken, NoMemory>
-        ensures played { IsPlayed enabled (journal_of self.new) }
-        ensures bytes { result ≡ Ok taken.Bytes → (journal_of self.new ≡ journal_of self.old ++ Took conn ∷ [])
+        ensures number { number_of self.new ≡ number_of self.old }
+        ensures played { AreEnabled (journal_of self.new) }
+        ensures bytes { result ≡ Ok taken.Bytes → (journal_of self.new ≡ longer (journal_of self.old) (Took conn))
             × (enabled (journal_of self.old) (Took conn) ≡ None)
             × (into.new ≡ output_at (journal_of self.old) conn) × (output_at (journal_of self.old) conn ≢ []) }
         ensures nothing_yet { result ≡ Ok taken.NothingYet → (journal_of self.new ≡ journal_of self.old)
@@ -188,7 +192,7 @@ impl Settled {
     /// The core, at the end.
     pub fn into_core(self) -> Core
         ensures settled { result ≡ settled (journal_of self) }
-        ensures in_range { AllByRecursion IsInRange (journal_of self) }
+        ensures in_range { AllByRecursion IsInRange (journal_of self).events }
     {
         let Settled { alloc: _, core } = self;
         Box::into_inner(core)

@@ -6,6 +6,7 @@ use Rattle.ninep_types.specs.declared.message.RBody.TheVariants as r
 use Rattle.ninep_types.specs.Spelling.{spelling_r}
 use Rattle.std.specs.Prelude.{codes}
 use Rattle.am_journal.specs.declared.event.Event.{Event}
+use Rattle.am_journal.specs.declared.event.Format.TheVariants.{One}
 use Rattle.am_journal.specs.declared.event.Event.TheVariants as event
 use Rattle.am_journal.specs.Lawful.{IsLawful}
 use Rattle.acme_tree.specs.declared.node.Node.TheVariants.{Root, NewDir, Window, File}
@@ -13,7 +14,7 @@ use Rattle.acme_tree.specs.declared.node.WinFile.TheVariants as file
 use Rattle.acme_tree.specs.Trees.{qid_of}
 use Rattle.core_intents.specs.Doings.{enabled_at}
 use Rattle.acme_core.specs.Run.{step}
-use Rattle.core_parts.specs.States.{State, present, start}
+use Rattle.core_parts.specs.States.{State, present, start_of}
 use Rattle.ninep_types.specs.Limits.{no_tag}
 use Rattle.am_drill.specs.Brief.{IsBrief}
 use Rattle.am_drill.specs.Drill.{opening}
@@ -73,10 +74,10 @@ stood = record {
   };
 }
 
-pub opening_goes : Goes 0 6 start opening
+pub opening_goes : Goes 0 6 (start_of One) opening
 unfolding qid_of
 opening_goes =
-    goes_on start _ (event.Dial 0) _ 0 6 (omega arith) refl dial_step none_brief
+    goes_on (start_of One) _ (event.Dial 0) _ 0 6 (omega arith) refl dial_step none_brief
     (goes_on _ _ version _ 0 6 version_lawful (room 0 (omega arith)) (version_step dialed)
     (brief_of no_tag (r.Version 8192 (codes "9P2000")) 19 refl (omega arith))
     (goes_on _ _ attach _ 0 6 attach_lawful (room 1 (omega arith)) (attach_step after_version)

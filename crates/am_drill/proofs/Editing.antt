@@ -1,7 +1,7 @@
 -- What a letter that is written or typed makes of the editor.
 use Rattle.std.proofs.Common.{◌≡◌, ℕ, ◌+◌, ◌<◌, Bool, true, false, List, [], ◌∷◌, ◌++◌, length, map, refl, ap, ◌∙◌}
 use Rattle.std.proofs.Common.{arith, Option, Some, None, Ok, Err}
-use Rattle.std.specs.Prelude.{nat_lt, ◌==◌, not, replicate, if◌then◌else◌}
+use Rattle.std.specs.Prelude.{nat_lt, ◌==◌, replicate, if◌then◌else◌}
 use Rattle.std.specs.Option.{option_to_list}
 use Rattle.std.proofs.lemmas.Bool.Decides.{nat_tests}
 use Rattle.am_text.specs.Part.{part_of}

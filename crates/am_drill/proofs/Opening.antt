@@ -42,7 +42,7 @@ use Rattle.core_parts.specs.declared.connection.Connection.TheVariants.{Undialed
 use Rattle.core_outputs.specs.declared.reply.Reply.{Reply}
 use Rattle.acme_core.specs.Run.{step}
 use Rattle.am_journal.specs.declared.event.Format.TheVariants.{One}
-use Rattle.core_parts.specs.States.{State, present, start}
+use Rattle.core_parts.specs.States.{State, present, start_of}
 use Rattle.core_outputs.specs.Unsent.{Unsent, nothing_unsent, with_reply}
 use Rattle.ninep_types.specs.Limits.{no_tag, no_fid}
 use Rattle.am_drill.specs.Drill.{message}
@@ -105,7 +105,7 @@ open_event = message 3 (t.Open 2 0)
 abbrev pub dialed : Begun
 dialed = record { entries = 1; unsent = nothing_unsent; replies = [] }
 
-pub dial_step : step start (event.Dial 0) ≡ begun None [] [] empty_book dialed
+pub dial_step : step (start_of One) (event.Dial 0) ≡ begun None [] [] empty_book dialed
 unfolding step served_most book_served_most port_served_most after_serving_most task_deeds task_refusal task_held
 dial_step = refl
 

@@ -7,8 +7,11 @@ use Rattle.std.proofs.lemmas.Iterator.{YieldsList}
 use Rattle.std.proofs.lemmas.Iterator.Adapters.{YieldsList-from_vec}
 use Rattle.std.proofs.lemmas.List.{append-nil}
 use Rattle.am_journal.specs.declared.event.Event.{Event}
-use Rattle.am_drill.specs.Brief.{IsNext, AreNext, IsFront, Stopped}
-use Rattle.am_drill.specs.Drill.{seed_of, next_seed, drawn, opening, round, events}
+use Rattle.am_journal.specs.declared.event.Format.TheVariants.{One}
+use Rattle.am_journal.specs.declared.event.Journal.{Journal}
+use Rattle.am_journal.specs.Journal.{journal_in, longer}
+use Rattle.am_drill.specs.Brief.{IsNext, AreNext, IsBegun, Stopped, followed}
+use Rattle.am_drill.specs.Drill.{seed_of, next_seed, drawn, opening, round, events, drill_journal}
 use Rattle.am_drill.proofs.Rounds.{next_events, no_rounds, next_opening, next_round}
 
 -- the items of a vector come one after another
@@ -17,27 +20,32 @@ pub items_come : {A Z : Type 0} → {s : _} (xs ys : List A) (n : ℕ)
     → ys ≡ xs → YieldsList (into_iter_steps {X = A} {Z = Z}) (λ y. y) s xs
 items_come xs ys n a b c d = YieldsList-from_vec xs (a ∙ d) (b ∙ c ∙ ap length d)
 
+-- a journal and nothing more
+followed_nothing : (journal : Journal) → followed journal [] ≡ journal
+followed_nothing journal = ap (journal_in journal.format) (append-nil journal.events)
+
 -- each can be done after those before it
-next_at : (before all : List Event) (n : ℕ) (e : Event) → AreNext before all → n < length all → e ≡ get_or all n e
-    → IsNext (before ++ take n all) e
+next_at : (before : Journal) (all : List Event) (n : ℕ) (e : Event) → AreNext before all → n < length all
+    → e ≡ get_or all n e → IsNext (followed before (take n all)) e
 next_at before [] n e next within is = absurd (omega arith)
 next_at before (x ∷ all) zero e next within is =
-    subst (λ (j : List Event). IsNext j e) (sym (append-nil before))
+    subst (λ (j : Journal). IsNext j e) (sym (followed_nothing before))
     (subst (λ (y : Event). IsNext before y) (sym is) next.0)
 next_at before (x ∷ all) (suc n) e next within is =
-    subst (λ (j : List Event). IsNext j e) (append_assoc before (x ∷ []) (take n all))
-    (next_at (before ++ x ∷ []) all n e next.1 (omega arith) is)
+    subst (λ (l : List Event). IsNext (journal_in before.format l) e)
+    (append_assoc before.events (x ∷ []) (take n all))
+    (next_at (longer before x) all n e next.1 (omega arith) is)
 
-pub turn_next : (before all done now : List Event) (e : Event) → AreNext before all
-    → map (λ y. y) done ≡ take (length done) all → now ≡ before ++ done
+pub turn_next : (before : Journal) (all done : List Event) (now : Journal) (e : Event) → AreNext before all
+    → map (λ y. y) done ≡ take (length done) all → now ≡ followed before done
     → (length done < length all) × (e ≡ get_or all (length done) e) → IsNext now e
 turn_next before all done now e next front is turn =
     let same : take (length done) all ≡ done = sym front ∙ map-id done in
-    subst (λ (j : List Event). IsNext j e) (ap (λ (x : List Event). before ++ x) same ∙ sym is)
+    subst (λ (j : Journal). IsNext j e) (ap (followed before) same ∙ sym is)
     (next_at before all (length done) e next turn.0 turn.1)
 
-pub stopped_at : (before all done now : List Event) → map (λ y. y) done ≡ take (length done) all
-    → now ≡ before ++ done → Stopped before all now
+pub stopped_at : (before : Journal) (all done : List Event) (now : Journal)
+    → map (λ y. y) done ≡ take (length done) all → now ≡ followed before done → Stopped before all now
 stopped_at before all done now front is =
     let same : done ≡ take (length done) all = sym (map-id done) ∙ front in (
       done,
@@ -48,14 +56,6 @@ stopped_at before all done now front is =
       ),
       is,
     )
-
-pub all_done : (before all done now : List Event) → map (λ y. y) done ≡ all → now ≡ before ++ done → now ≡ before ++ all
-all_done before all done now whole is = is ∙ ap (λ (x : List Event). before ++ x) (sym (map-id done) ∙ whole)
-
-pub done_more : (before done now next : List Event) (e : Event) → now ≡ before ++ done → next ≡ now ++ e ∷ []
-    → next ≡ before ++ (done ++ e ∷ [])
-done_more before done now next e is more = more ∙ ap (λ (x : List Event). x ++ e ∷ []) is
-    ∙ append_assoc before done (e ∷ [])
 
 -- what holds is so where a call failed, too
 pub on_err : {T E : Type 0} (r : Result T E) (P : Type 0) → P → OnErr r P
@@ -75,50 +75,53 @@ first_seed = refl
 pub ruleset seeds = (seed_more, first_seed)
 
 -- a front of the first rounds is one of all
-front_more : (k more : ℕ) (now : List Event) → IsFront now (events k) → IsFront now (events (k + more))
+front_more : (k more : ℕ) (now : Journal) → IsBegun now (drill_journal k) → IsBegun now (drill_journal (k + more))
 front_more k zero now front =
     let same : k ≡ k + 0 = omega arith in
-    subst (λ (n : ℕ). IsFront now (events n)) same front
+    subst (λ (n : ℕ). IsBegun now (drill_journal n)) same front
 front_more k (suc more) now front =
     let n : ℕ = k + more in
-    let before : IsFront now (events n) = front_more k more now front in
+    let before : IsBegun now (drill_journal n) = front_more k more now front in
     let r : List Event = round (n + 1) (drawn (seed_of (n + 1))) in
-    let longer : IsFront now (events (n + 1)) = (
+    let further : IsBegun now (drill_journal (n + 1)) = (
       before.0 ++ r,
-      sym (append_assoc now before.0 r)
-          ∙ ap (λ (x : List Event). x ++ r) before.1 ∙ sym (next_events n),
+      ap (journal_in now.format) (sym (append_assoc now.events before.0 r))
+          ∙ ap (λ (x : Journal). followed x r) before.1 ∙ ap (journal_in One) (sym (next_events n)),
     ) in
     let same : (k + more) + 1 ≡ k + suc more = omega arith in
-    subst (λ (m : ℕ). IsFront now (events m)) same longer
+    subst (λ (m : ℕ). IsBegun now (drill_journal m)) same further
 
 -- a front of the events up to a round
-pub front_up : (k n : ℕ) (now : List Event) → k ≤ n → IsFront now (events k) → IsFront now (events n)
+pub front_up : (k n : ℕ) (now : Journal) → k ≤ n → IsBegun now (drill_journal k) → IsBegun now (drill_journal n)
 front_up k n now within front =
     let same : k + (n - k) ≡ n = omega arith in
-    subst (λ (m : ℕ). IsFront now (events m)) same (front_more k (n - k) now front)
+    subst (λ (m : ℕ). IsBegun now (drill_journal m)) same (front_more k (n - k) now front)
 
 -- ---- the events before the rounds
 
-pub opening_next : (before es : List Event) → before ≡ [] → es ≡ opening → AreNext before es
+pub opening_next : (before : Journal) (es : List Event) → before ≡ journal_in One [] → es ≡ opening
+    → AreNext before es
 opening_next before es empty is =
-    subst (λ (b : List Event). AreNext b es) (sym empty) (subst (λ (x : List Event). AreNext [] x) (sym is)
-    next_opening)
+    subst (λ (b : Journal). AreNext b es) (sym empty)
+    (subst (λ (x : List Event). AreNext (journal_in One []) x) (sym is) next_opening)
 
-pub opening_done : (before es now : List Event) → before ≡ [] → es ≡ opening → now ≡ before ++ es → now ≡ events 0
-opening_done before es now empty is done = done ∙ ap (λ (b : List Event). b ++ es) empty ∙ is ∙ sym no_rounds
+pub opening_done : (before : Journal) (es : List Event) (now : Journal) → before ≡ journal_in One [] → es ≡ opening
+    → now ≡ followed before es → now ≡ drill_journal 0
+opening_done before es now empty is done =
+    done ∙ ap (λ (b : Journal). followed b es) empty ∙ ap (journal_in One) (is ∙ sym no_rounds)
 
-pub opening_stopped : (before es now : List Event) → before ≡ [] → es ≡ opening → Stopped before es now
-    → IsFront now (events 0)
+pub opening_stopped : (before : Journal) (es : List Event) (now : Journal) → before ≡ journal_in One []
+    → es ≡ opening → Stopped before es now → IsBegun now (drill_journal 0)
 opening_stopped before es now empty is stop =
     let done : List Event = stop.0 in
     let rest : List Event = stop.1.0 in (
       rest,
-      ap (λ (x : List Event). x ++ rest) (stop.2 ∙ ap (λ (x : List Event). x ++ done) empty)
-          ∙ stop.1.1 ∙ is ∙ sym no_rounds,
+      ap (λ (x : Journal). followed x rest) (stop.2 ∙ ap (λ (x : Journal). followed x done) empty)
+          ∙ ap (journal_in One) (stop.1.1 ∙ is ∙ sym no_rounds),
     )
 
-pub nothing_done : (now : List Event) → now ≡ [] → IsFront now (events 0)
-nothing_done now empty = (events 0, ap (λ (x : List Event). x ++ events 0) empty)
+pub nothing_done : (now : Journal) → now ≡ journal_in One [] → IsBegun now (drill_journal 0)
+nothing_done now empty = (events 0, ap (λ (x : Journal). followed x (events 0)) empty)
 
 -- ---- a round
 
@@ -126,27 +129,29 @@ round_is : (k s : ℕ) (es : List Event) → s ≡ seed_of (k + 1) → es ≡ ro
     → es ≡ round (k + 1) (drawn (seed_of (k + 1)))
 round_is k s es seed is = is ∙ ap (λ (x : ℕ). round (k + 1) (drawn x)) seed
 
-pub round_next : (k s : ℕ) (before es : List Event) → k < 100000 → before ≡ events k → s ≡ seed_of (k + 1)
-    → es ≡ round (k + 1) (drawn s) → AreNext before es
+pub round_next : (k s : ℕ) (before : Journal) (es : List Event) → k < 100000 → before ≡ drill_journal k
+    → s ≡ seed_of (k + 1) → es ≡ round (k + 1) (drawn s) → AreNext before es
 round_next k s before es few at seed is =
-    subst (λ (b : List Event). AreNext b es) (sym at) (subst (λ (x : List Event). AreNext (events k) x)
+    subst (λ (b : Journal). AreNext b es) (sym at) (subst (λ (x : List Event). AreNext (drill_journal k) x)
     (sym (round_is k s es seed is)) (next_round k few))
 
-pub round_done : (k s : ℕ) (before es now : List Event) → before ≡ events k → s ≡ seed_of (k + 1)
-    → es ≡ round (k + 1) (drawn s) → now ≡ before ++ es → now ≡ events (k + 1)
+pub round_done : (k s : ℕ) (before : Journal) (es : List Event) (now : Journal) → before ≡ drill_journal k
+    → s ≡ seed_of (k + 1) → es ≡ round (k + 1) (drawn s) → now ≡ followed before es → now ≡ drill_journal (k + 1)
 round_done k s before es now at seed is done =
-    done ∙ ap (λ (b : List Event). b ++ es) at ∙ ap (λ (x : List Event). events k ++ x) (round_is k s es seed is)
-    ∙ sym (next_events k)
+    done ∙ ap (λ (b : Journal). followed b es) at
+    ∙ ap (λ (x : List Event). journal_in One (events k ++ x)) (round_is k s es seed is)
+    ∙ ap (journal_in One) (sym (next_events k))
 
-pub round_stopped : (k s : ℕ) (before es now : List Event) → before ≡ events k → s ≡ seed_of (k + 1)
-    → es ≡ round (k + 1) (drawn s) → Stopped before es now → IsFront now (events (k + 1))
+pub round_stopped : (k s : ℕ) (before : Journal) (es : List Event) (now : Journal) → before ≡ drill_journal k
+    → s ≡ seed_of (k + 1) → es ≡ round (k + 1) (drawn s) → Stopped before es now → IsBegun now (drill_journal (k + 1))
 round_stopped k s before es now at seed is stop =
     let done : List Event = stop.0 in
-    let rest : List Event = stop.1.0 in (
+    let rest : List Event = stop.1.0 in
+    let all : (events k ++ done) ++ rest ≡ events (k + 1) = append_assoc (events k) done rest
+    ∙ ap (λ (x : List Event). events k ++ x) (stop.1.1 ∙ round_is k s es seed is) ∙ sym (next_events k) in (
       rest,
-      ap (λ (x : List Event). x ++ rest) (stop.2 ∙ ap (λ (x : List Event). x ++ done) at)
-          ∙ append_assoc (events k) done rest
-          ∙ ap (λ (x : List Event). events k ++ x) (stop.1.1 ∙ round_is k s es seed is) ∙ sym (next_events k),
+      ap (λ (x : Journal). followed x rest) (stop.2 ∙ ap (λ (x : Journal). followed x done) at)
+          ∙ ap (journal_in One) all,
     )
 
 -- what holds where a call ended well or failed holds where that result is passed on

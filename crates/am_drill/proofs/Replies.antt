@@ -8,9 +8,12 @@ use Rattle.std.proofs.lemmas.List.{append-nil, take_more, length-append}
 use Rattle.std.proofs.lemmas.List.Sums.{sum_by-append, sum_by_push, sum_by_more_le}
 use Rattle.std.proofs.lemmas.Option.{slice_get_within, get_or_from_slice_get}
 use Rattle.am_journal.specs.declared.event.Event.{Event}
+use Rattle.am_journal.specs.declared.event.Format.TheVariants.{One}
+use Rattle.am_journal.specs.declared.event.Journal.{Journal}
+use Rattle.am_journal.specs.Journal.{journal_in, longer}
 use Rattle.core_outputs.specs.declared.reply.Reply.{Reply}
 use Rattle.acme_core.specs.Run.{step, run}
-use Rattle.core_parts.specs.States.{State, start}
+use Rattle.core_parts.specs.States.{State, start_of}
 use Rattle.am_drill.specs.declared.counting.Count.{Count}
 use Rattle.am_drill.specs.Brief.{IsBrief, IsNext, IsCounted}
 use Rattle.am_drill.specs.Summary.{bytes_in, replies_from, replies_of, count_of, count_at}
@@ -64,27 +67,30 @@ replies-append s (e ∷ a) b = ap (λ (x : List Reply). (step s e).replies ++ x)
     ∙ sym (append_assoc (step s e).replies (replies_from (step s e) a) (replies_from (fold step (step s e) a) b))
 
 -- the replies of one event more
-pub replies-push : (journal : List Event) (e : Event) → replies_of (journal ++ e ∷ []) ≡ replies_of journal
-    ++ (run (journal ++ e ∷ [])).replies
+pub replies-push : (journal : Journal) (e : Event) → replies_of (longer journal e) ≡ replies_of journal
+    ++ (run (longer journal e)).replies
 unfolding replies_from run
 replies-push journal e =
-    replies-append start journal (e ∷ [])
-    ∙ ap (λ (x : List Reply). replies_from start journal ++ x) (append-nil (step (fold step start journal) e).replies
-    ∙ ap (λ (s : State). s.replies) (sym (fold-append step start journal (e ∷ []))))
+    let start = start_of journal.format in
+    replies-append start journal.events (e ∷ [])
+    ∙ ap (λ (x : List Reply). replies_from start journal.events ++ x)
+    (append-nil (step (fold step start journal.events) e).replies
+    ∙ ap (λ (s : State). s.replies) (sym (fold-append step start journal.events (e ∷ []))))
 
-pub count_pushed : (count more : Count) (journal : List Event) (e : Event) → IsCounted count journal
-    → IsBrief (run (journal ++ e ∷ [])).replies → more ≡ count_of (run (journal ++ e ∷ [])).replies
+pub count_pushed : (count more : Count) (journal : Journal) (e : Event) → IsCounted count journal
+    → IsBrief (run (longer journal e)).replies → more ≡ count_of (run (longer journal e)).replies
     → IsCounted (record { replies = count.replies + more.replies; bytes = count.bytes + more.bytes })
-    (journal ++ e ∷ [])
+    (longer journal e)
 count_pushed count more journal e was brief is =
-    let rs : List Reply = (run (journal ++ e ∷ [])).replies in
+    let rs : List Reply = (run (longer journal e)).replies in
     let old : count ≡ count_at journal = was.exact in
     let more_replies : more.replies ≡ length rs = ap (λ (c : Count). c.replies) is in
     let more_bytes : more.bytes ≡ sum_by bytes_in rs = ap (λ (c : Count). c.bytes) is in
     let old_replies : count.replies ≡ length (replies_of journal) = ap (λ (c : Count). c.replies) old in
     let old_bytes : count.bytes ≡ sum_by bytes_in (replies_of journal) = ap (λ (c : Count). c.bytes) old in
-    let longer : length (journal ++ e ∷ []) ≡ length journal + 1 = length-append journal (e ∷ []) in
-    let all_replies : count.replies + more.replies ≡ length (replies_of (journal ++ e ∷ [])) =
+    let entries : length (longer journal e).events ≡ length journal.events + 1 =
+    length-append journal.events (e ∷ []) in
+    let all_replies : count.replies + more.replies ≡ length (replies_of (longer journal e)) =
     omega (
       arith,
       old_replies,
@@ -93,7 +99,7 @@ count_pushed count more journal e was brief is =
       length-append (replies_of journal) rs,
     )
     in
-    let all_bytes : count.bytes + more.bytes ≡ sum_by bytes_in (replies_of (journal ++ e ∷ [])) =
+    let all_bytes : count.bytes + more.bytes ≡ sum_by bytes_in (replies_of (longer journal e)) =
     omega (
       arith,
       old_bytes,
@@ -104,37 +110,38 @@ count_pushed count more journal e was brief is =
     in
     record {
       exact = ap (λ (n : ℕ). record { replies = n; bytes = count.bytes + more.bytes }) all_replies
-          ∙ ap (λ (n : ℕ). record { replies = length (replies_of (journal ++ e ∷ [])); bytes = n }) all_bytes;
-      few = omega (arith, was.few, brief.few, more_replies, longer);
-      bytes = omega (arith, was.bytes, brief.bytes, more_bytes, longer);
+          ∙ ap (λ (n : ℕ). record { replies = length (replies_of (longer journal e)); bytes = n }) all_bytes;
+      few = omega (arith, was.few, brief.few, more_replies, entries);
+      bytes = omega (arith, was.bytes, brief.bytes, more_bytes, entries);
     }
 
 -- none of none
-pub none_counted : (journal : List Event) → journal ≡ [] → IsCounted (record { replies = 0; bytes = 0 }) journal
+pub none_counted : (journal : Journal) → journal ≡ journal_in One []
+    → IsCounted (record { replies = 0; bytes = 0 }) journal
 unfolding replies_from
-none_counted journal empty = subst (λ (j : List Event). IsCounted (record { replies = 0; bytes = 0 }) j) (sym empty)
+none_counted journal empty = subst (λ (j : Journal). IsCounted (record { replies = 0; bytes = 0 }) j) (sym empty)
     (record { exact = refl; few = omega arith; bytes = omega arith })
 
 -- ---- after a step
 
-pub brief_at : (before now : List Event) (e : Event) → IsNext before e → now ≡ before ++ e ∷ []
+pub brief_at : (before now : Journal) (e : Event) → IsNext before e → now ≡ longer before e
     → IsBrief (run now).replies
-brief_at before now e next is = subst (λ (j : List Event). IsBrief (run j).replies) (sym is) next.brief
+brief_at before now e next is = subst (λ (j : Journal). IsBrief (run j).replies) (sym is) next.brief
 
-pub counted_at : (before now : List Event) (e : Event) (count more : Count) → IsNext before e → IsCounted count before
-    → now ≡ before ++ e ∷ [] → more ≡ count_of (run now).replies
+pub counted_at : (before now : Journal) (e : Event) (count more : Count) → IsNext before e → IsCounted count before
+    → now ≡ longer before e → more ≡ count_of (run now).replies
     → IsCounted (record { replies = count.replies + more.replies; bytes = count.bytes + more.bytes }) now
 counted_at before now e count more next was is said =
-    subst (λ (j : List Event). IsCounted (record {
+    subst (λ (j : Journal). IsCounted (record {
       replies = count.replies + more.replies;
       bytes =
           count.bytes + more.bytes;
     }) j) (sym is)
-    (count_pushed count more before e was next.brief (said ∙ ap (λ (j : List Event). count_of (run j).replies) is))
+    (count_pushed count more before e was next.brief (said ∙ ap (λ (j : Journal). count_of (run j).replies) is))
 
 -- no count wraps
-pub counts_fit : (before now : List Event) (e : Event) (count more : Count) → IsNext before e → IsCounted count before
-    → now ≡ before ++ e ∷ [] → more ≡ count_of (run now).replies
+pub counts_fit : (before now : Journal) (e : Event) (count more : Count) → IsNext before e → IsCounted count before
+    → now ≡ longer before e → more ≡ count_of (run now).replies
     → (count.replies + more.replies < 2 ^ 64) × (count.bytes + more.bytes < 2 ^ 64)
 counts_fit before now e count more next was is said =
     let brief : IsBrief (run now).replies = brief_at before now e next is in

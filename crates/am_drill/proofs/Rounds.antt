@@ -7,27 +7,29 @@ use Rattle.std.proofs.lemmas.Grind.{fold-append}
 use Rattle.std.proofs.lemmas.List.{length-append, append-nil}
 use Rattle.am_journal.specs.declared.event.Event.{Event}
 use Rattle.am_journal.specs.declared.event.Event.TheVariants as event
-use Rattle.am_counter.specs.Played.{ArePlayed, IsPlayed}
-use Rattle.acme_core.specs.Run.{step, run, enabled}
-use Rattle.core_parts.specs.States.{State, start}
+use Rattle.am_journal.specs.declared.event.Format.TheVariants.{One}
+use Rattle.am_journal.specs.declared.event.Journal.{Journal}
+use Rattle.am_journal.specs.Journal.{journal_in, longer}
+use Rattle.am_counter.specs.Played.{ArePlayed}
+use Rattle.acme_core.specs.Run.{step, run, enabled_in, AreEnabled}
+use Rattle.acme_core.proofs.Goes.{run-push}
+use Rattle.core_parts.specs.States.{State, start_of}
 use Rattle.am_drill.specs.declared.numbers.Turn.{Turn}
 use Rattle.am_drill.specs.declared.numbers.Turn.TheVariants as turn
-use Rattle.am_drill.specs.Brief.{IsBrief, AreNext}
+use Rattle.am_drill.specs.Brief.{IsBrief, AreNext, followed}
 use Rattle.am_drill.specs.Drill.{seed_of, drawn, letter, turn_of, opening, read, played_turn, round, rounds, events}
+use Rattle.am_drill.specs.Drill.{drill_journal}
 use Rattle.am_drill.proofs.Begins.{opening_goes}
 use Rattle.am_drill.proofs.Calm.{CanDoAll}
 use Rattle.am_drill.proofs.Turns.{Goes, Stands, most_unsent, round_goes}
 
-pub run-push : (journal : List Event) (e : Event) → run (journal ++ e ∷ []) ≡ step (run journal) e
+run-append : (a : Journal) (b : List Event) → run (followed a b) ≡ fold step (run a) b
 unfolding run
-run-push journal e = fold-append step start journal (e ∷ [])
-
-run-append : (a b : List Event) → run (a ++ b) ≡ fold step (run a) b
-unfolding run
-run-append a b = fold-append step start a b
+run-append a b = fold-append step (start_of a.format) a.events b
 
 -- what can be done from where a journal leads can be done next
-next_from : (before es : List Event) → CanDoAll (run before) es → length before + length es < 2 ^ 32 → AreNext before es
+next_from : (before : Journal) (es : List Event) → CanDoAll (run before) es
+    → length before.events + length es < 2 ^ 32 → AreNext before es
 next_from before [] all short = tt
 next_from before (e ∷ es) all short = (
   record {
@@ -36,25 +38,25 @@ next_from before (e ∷ es) all short = (
     brief = subst (λ (s : State). IsBrief s.replies) (sym (run-push before e)) all.0.brief;
     short = omega arith;
   },
-  next_from (before ++ e ∷ []) es (subst (λ (s : State). CanDoAll s es) (sym (run-push before e)) all.1)
-      (omega (arith, length-append before (e ∷ []))),
+  next_from (longer before e) es (subst (λ (s : State). CanDoAll s es) (sym (run-push before e)) all.1)
+      (omega (arith, length-append before.events (e ∷ []))),
 )
 
-played_from : (before es : List Event) → AreNext before es → ArePlayed enabled before es
+played_from : (before es : List Event) → AreNext (journal_in One before) es → ArePlayed (enabled_in One) before es
 unfolding ArePlayed
 played_from before [] all = tt
 played_from before (e ∷ es) all = (all.0.lawful, all.0.allowed, played_from (before ++ e ∷ []) es all.1)
 
-played-append : (before a b : List Event) → ArePlayed enabled before a → ArePlayed enabled (before ++ a) b
-    → ArePlayed enabled before (a ++ b)
+played-append : (before a b : List Event) → ArePlayed (enabled_in One) before a
+    → ArePlayed (enabled_in One) (before ++ a) b → ArePlayed (enabled_in One) before (a ++ b)
 unfolding ArePlayed
-played-append before [] b first then_all = subst (λ (j : List Event). ArePlayed enabled j b) (append-nil before)
-    then_all
+played-append before [] b first then_all =
+    subst (λ (j : List Event). ArePlayed (enabled_in One) j b) (append-nil before) then_all
 played-append before (e ∷ a) b first then_all = (
   first.0,
   first.1,
   played-append (before ++ e ∷ []) a b first.2
-      (subst (λ (j : List Event). ArePlayed enabled j b) (sym (append_assoc before (e ∷ []) a)) then_all),
+      (subst (λ (j : List Event). ArePlayed (enabled_in One) j b) (sym (append_assoc before (e ∷ []) a)) then_all),
 )
 
 -- ---- how many events there are
@@ -93,28 +95,30 @@ pub no_rounds : events 0 ≡ opening
 unfolding rounds
 no_rounds = append-nil opening
 
-pub stands_after : (k : ℕ) → k ≤ 100000 → Stands k (most_unsent k) (run (events k))
+pub stands_after : (k : ℕ) → k ≤ 100000 → Stands k (most_unsent k) (run (drill_journal k))
 unfolding run
-stands_after zero h = subst (λ (j : List Event). Stands 0 6 (fold step start j)) (sym no_rounds) opening_goes.stands
+stands_after zero h =
+    subst (λ (j : List Event). Stands 0 6 (fold step (start_of One) j)) (sym no_rounds) opening_goes.stands
 stands_after (suc k) h =
-    let s : State = run (events k) in
+    let s : State = run (drill_journal k) in
     let goes : Goes (k + 1) (most_unsent (k + 1)) s (round (k + 1) (drawn (seed_of (k + 1)))) = round_goes s k
     (drawn (seed_of (k + 1))) (omega arith) (stands_after k (omega arith)) in
-    let is : run (events (k + 1)) ≡ fold step s (round (k + 1) (drawn (seed_of (k + 1)))) = ap run (next_events k)
-    ∙ run-append (events k) (round (k + 1) (drawn (seed_of (k + 1)))) in
-    subst (λ (n : ℕ). Stands n (most_unsent n) (run (events n))) (add-one k)
+    let is : run (drill_journal (k + 1)) ≡ fold step s (round (k + 1) (drawn (seed_of (k + 1)))) =
+    ap (λ (l : List Event). run (journal_in One l)) (next_events k)
+    ∙ run-append (drill_journal k) (round (k + 1) (drawn (seed_of (k + 1)))) in
+    subst (λ (n : ℕ). Stands n (most_unsent n) (run (drill_journal n))) (add-one k)
     (subst (λ (x : State). Stands (k + 1) (most_unsent (k + 1)) x) (sym is) goes.stands)
 
-pub next_opening : AreNext [] opening
+pub next_opening : AreNext (journal_in One []) opening
 unfolding run
-next_opening = next_from [] opening opening_goes.all (omega arith)
+next_opening = next_from (journal_in One []) opening opening_goes.all (omega arith)
 
-pub next_round : (k : ℕ) → k < 100000 → AreNext (events k) (round (k + 1) (drawn (seed_of (k + 1))))
+pub next_round : (k : ℕ) → k < 100000 → AreNext (drill_journal k) (round (k + 1) (drawn (seed_of (k + 1))))
 next_round k h =
     let r = drawn (seed_of (k + 1)) in
-    let goes : Goes (k + 1) (most_unsent (k + 1)) (run (events k)) (round (k + 1) r) = round_goes (run (events k)) k r h
-    (stands_after k (omega arith)) in
-    next_from (events k) (round (k + 1) r) goes.all (omega (
+    let goes : Goes (k + 1) (most_unsent (k + 1)) (run (drill_journal k)) (round (k + 1) r) =
+    round_goes (run (drill_journal k)) k r h (stands_after k (omega arith)) in
+    next_from (drill_journal k) (round (k + 1) r) goes.all (omega (
       arith,
       length-append opening (rounds k),
       rounds_short k,
@@ -123,13 +127,13 @@ next_round k h =
 
 -- ---- all of them
 
-pub all_played : (n : ℕ) → n ≤ 100000 → IsPlayed enabled (events n)
-all_played zero h = subst (λ (j : List Event). ArePlayed enabled [] j) (sym no_rounds)
+pub all_played : (n : ℕ) → n ≤ 100000 → AreEnabled (drill_journal n)
+all_played zero h = subst (λ (j : List Event). ArePlayed (enabled_in One) [] j) (sym no_rounds)
     (played_from [] opening next_opening)
 all_played (suc k) h =
     let r = drawn (seed_of (k + 1)) in
-    let more : ArePlayed enabled (events k) (round (k + 1) r) = played_from (events k) (round (k + 1) r)
+    let more : ArePlayed (enabled_in One) (events k) (round (k + 1) r) = played_from (events k) (round (k + 1) r)
     (next_round k (omega arith)) in
-    subst (λ (n : ℕ). IsPlayed enabled (events n)) (add-one k)
-    (subst (λ (j : List Event). ArePlayed enabled [] j) (sym (next_events k))
+    subst (λ (n : ℕ). AreEnabled (drill_journal n)) (add-one k)
+    (subst (λ (j : List Event). ArePlayed (enabled_in One) [] j) (sym (next_events k))
     (played-append [] (events k) (round (k + 1) r) (all_played k (omega arith)) more))

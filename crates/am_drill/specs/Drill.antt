@@ -4,6 +4,9 @@ use Rattle.ninep_types.specs.declared.message.TBody.{TBody}
 use Rattle.ninep_types.specs.declared.message.TBody.TheVariants as t
 use Rattle.am_journal.specs.declared.event.Event.{Event}
 use Rattle.am_journal.specs.declared.event.Event.TheVariants as event
+use Rattle.am_journal.specs.declared.event.Format.TheVariants.{One}
+use Rattle.am_journal.specs.declared.event.Journal.{Journal}
+use Rattle.am_journal.specs.Journal.{journal_in}
 use Rattle.am_journal.specs.declared.event.Side.TheVariants.{Body}
 use Rattle.ninep_types.specs.Limits.{no_tag, no_fid, version_name}
 use Rattle.am_drill.specs.declared.numbers.Turn.{Turn}
@@ -110,3 +113,7 @@ rounds (suc k) = rounds k ++ round (k + 1) (drawn (seed_of (k + 1)))
 -- all events of a drill of so many rounds
 abbrev pub events : ℕ → List Event
 events n = opening ++ rounds n
+
+-- its journal
+abbrev pub drill_journal : ℕ → Journal
+drill_journal n = journal_in One (events n)

@@ -3,6 +3,7 @@ use Rattle.std.specs.Prelude.{ℕ, ◌==◌, Bool, true, false, List, [], ◌∷
 use Rattle.std.specs.Prelude.{if◌then◌else◌}
 use Rattle.std.specs.Fmt.{decimal}
 use Rattle.am_journal.specs.declared.event.Event.{Event}
+use Rattle.am_journal.specs.declared.event.Journal.{Journal}
 use Rattle.am_journal.specs.declared.view.WindowView.{WindowView}
 use Rattle.am_journal.specs.declared.view.ItemView.{ItemView}
 use Rattle.am_journal.specs.declared.view.View.{View}
@@ -10,7 +11,7 @@ use Rattle.win_events.specs.declared.item.Life.{Life}
 use Rattle.win_events.specs.declared.item.Life.TheVariants.{Pending, Taken, Back, Dropped}
 use Rattle.core_outputs.specs.declared.reply.Reply.{Reply}
 use Rattle.acme_core.specs.Run.{step}
-use Rattle.core_parts.specs.States.{State, start}
+use Rattle.core_parts.specs.States.{State, start_of}
 use Rattle.acme_core.specs.Views.{view_of}
 use Rattle.am_text.specs.Ascii.{newline}
 use Rattle.am_drill.specs.declared.counting.Count.{Count}
@@ -23,8 +24,8 @@ replies_from s [] = []
 replies_from s (e ∷ es) = (step s e).replies ++ replies_from (step s e) es
 
 -- all replies of a journal
-abbrev pub replies_of : List Event → List Reply
-replies_of journal = replies_from start journal
+abbrev pub replies_of : Journal → List Reply
+replies_of journal = replies_from (start_of journal.format) journal.events
 
 -- the bytes of a reply
 abbrev pub bytes_in : Reply → ℕ
@@ -35,7 +36,7 @@ abbrev pub count_of : List Reply → Count
 count_of replies = record { replies = length replies; bytes = sum_by bytes_in replies }
 
 -- the count of a journal's replies
-abbrev pub count_at : List Event → Count
+abbrev pub count_at : Journal → Count
 count_at journal = count_of (replies_of journal)
 
 -- ---- what the view tells
@@ -85,5 +86,5 @@ summary_text view count =
     ++ line (codes "pending ") (count_by has_pending view.items)
 
 -- the summary of the run of a journal
-unfoldable pub summary : List Event → List ℕ
+unfoldable pub summary : Journal → List ℕ
 summary journal = summary_text (view_of journal) (count_at journal)

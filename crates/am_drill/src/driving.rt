@@ -2,9 +2,11 @@
 
 ghost use Rattle.std.specs.Prelude.{◌≡◌, ◌≤◌, ◌<◌, ◌+◌, [], None, IfOk, OnOk, OnErr};
 ghost use Rattle.am_base.specs.Seen.{seen};
+ghost use Rattle.am_journal.specs.declared.event.Format.TheVariants.{One};
+ghost use Rattle.am_journal.specs.Journal.{journal_in};
 ghost use Rattle.acme_core.specs.Run.{IsPossible};
-ghost use Rattle.am_drill.specs.Brief.{IsCounted, IsFront};
-ghost use Rattle.am_drill.specs.Drill.{most_rounds, events, seed_of};
+ghost use Rattle.am_drill.specs.Brief.{IsCounted, IsBegun};
+ghost use Rattle.am_drill.specs.Drill.{most_rounds, drill_journal, seed_of};
 ghost use Rattle.am_drill.specs.Ends.{Wrote, DrillSays};
 ghost use Rattle.am_drill.specs.Summary.{summary};
 
@@ -13,7 +15,7 @@ use crate::numbers::{FIRST_SEED, next_seed};
 use crate::runner::Runner;
 use crate::summary::summary_text;
 use am_base::{Sink, write_all};
-use am_journal::Journal;
+use am_journal::{Format, Journal};
 use am_text::{Bytes, Items, NoMemory};
 use std::alloc::Global;
 
@@ -37,11 +39,11 @@ pub struct Drilled {
 
 // Does the events that come before the rounds.
 fn play_opening(alloc: Global, runner: &mut Runner) -> Result<(), NoMemory>
-    requires empty { runner.old.core.journal ≡ [] }
+    requires empty { runner.old.core.journal ≡ journal_in One [] }
     requires idle { runner.old.core.planned ≡ None }
     requires counted { IsCounted runner.old.count runner.old.core.journal }
-    ensures ok { OnOk result (runner.new.core.journal ≡ events 0) }
-    ensures err { OnErr result (IsFront runner.new.core.journal (events 0)) }
+    ensures ok { OnOk result (runner.new.core.journal ≡ drill_journal 0) }
+    ensures err { OnErr result (IsBegun runner.new.core.journal (drill_journal 0)) }
     ensures idle { runner.new.core.planned ≡ None }
     ensures counted { IsCounted runner.new.count runner.new.core.journal }
 {
@@ -53,11 +55,11 @@ fn play_opening(alloc: Global, runner: &mut Runner) -> Result<(), NoMemory>
 fn play_round(alloc: Global, done: u64, seed: u64, runner: &mut Runner) -> Result<(), NoMemory>
     requires few { done < most_rounds }
     requires seed { seed ≡ seed_of (done + 1) }
-    requires before { runner.old.core.journal ≡ events done }
+    requires before { runner.old.core.journal ≡ drill_journal done }
     requires idle { runner.old.core.planned ≡ None }
     requires counted { IsCounted runner.old.count runner.old.core.journal }
-    ensures ok { OnOk result (runner.new.core.journal ≡ events (done + 1)) }
-    ensures err { OnErr result (IsFront runner.new.core.journal (events (done + 1))) }
+    ensures ok { OnOk result (runner.new.core.journal ≡ drill_journal (done + 1)) }
+    ensures err { OnErr result (IsBegun runner.new.core.journal (drill_journal (done + 1))) }
     ensures idle { runner.new.core.planned ≡ None }
     ensures counted { IsCounted runner.new.count runner.new.core.journal }
 {
@@ -68,11 +70,11 @@ fn play_round(alloc: Global, done: u64, seed: u64, runner: &mut Runner) -> Resul
 #[tactic(auto, using(crate::proofs::Playing::seeds))]
 fn play_rounds(alloc: Global, rounds: u64, runner: &mut Runner) -> Result<(), NoMemory>
     requires rounds { rounds ≤ most_rounds }
-    requires empty { runner.old.core.journal ≡ [] }
+    requires empty { runner.old.core.journal ≡ journal_in One [] }
     requires idle { runner.old.core.planned ≡ None }
     requires counted { IsCounted runner.old.count runner.old.core.journal }
-    ensures ok { OnOk result (runner.new.core.journal ≡ events rounds) }
-    ensures err { OnErr result (IsFront runner.new.core.journal (events rounds)) }
+    ensures ok { OnOk result (runner.new.core.journal ≡ drill_journal rounds) }
+    ensures err { OnErr result (IsBegun runner.new.core.journal (drill_journal rounds)) }
     ensures idle { runner.new.core.planned ≡ None }
     ensures counted { IsCounted runner.new.count runner.new.core.journal }
 {
@@ -89,12 +91,12 @@ fn play_rounds(alloc: Global, rounds: u64, runner: &mut Runner) -> Result<(), No
 #[tactic(auto, unfolding(crate::specs::Summary::summary))]
 fn run(alloc: Global, rounds: u64, runner: &mut Runner) -> Result<Bytes, NoMemory>
     requires rounds { rounds ≤ most_rounds }
-    requires empty { runner.old.core.journal ≡ [] }
+    requires empty { runner.old.core.journal ≡ journal_in One [] }
     requires idle { runner.old.core.planned ≡ None }
     requires counted { IsCounted runner.old.count runner.old.core.journal }
-    ensures text { IfOk result (λ text. text ≡ summary (events rounds)) }
-    ensures ok { OnOk result (runner.new.core.journal ≡ events rounds) }
-    ensures err { OnErr result (IsFront runner.new.core.journal (events rounds)) }
+    ensures text { IfOk result (λ text. text ≡ summary (drill_journal rounds)) }
+    ensures ok { OnOk result (runner.new.core.journal ≡ drill_journal rounds) }
+    ensures err { OnErr result (IsBegun runner.new.core.journal (drill_journal rounds)) }
 {
     play_rounds(alloc, rounds, runner)?;
     let view = runner.core.view()?;
@@ -121,7 +123,7 @@ fn run_and_write<O: Sink>(
     output: &mut O,
 ) -> DrillEnd
     requires rounds { rounds ≤ most_rounds }
-    requires empty { runner.old.core.journal ≡ [] }
+    requires empty { runner.old.core.journal ≡ journal_in One [] }
     requires idle { runner.old.core.planned ≡ None }
     requires counted { IsCounted runner.old.count runner.old.core.journal }
     ensures { DrillSays result rounds
@@ -137,12 +139,15 @@ fn run_and_write<O: Sink>(
 // There was no memory for the editor.
 fn nothing_done(alloc: Global) -> Drilled
     ensures end { result.end ≡ DrillEnd.NoMemory }
-    ensures journal { result.journal ≡ [] }
+    ensures journal { result.journal ≡ journal_in One [] }
     ensures possible { IsPossible result.journal }
 {
     Drilled {
         end: DrillEnd::NoMemory,
-        journal: Items::new(alloc),
+        journal: Journal {
+            format: Format::One,
+            events: Items::new(alloc),
+        },
     }
 }
 

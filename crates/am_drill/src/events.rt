@@ -4,7 +4,7 @@ ghost use Rattle.std.specs.Prelude.{◌≡◌, ◌∷◌, [], codes, IfOk};
 ghost use Rattle.ninep_types.specs.Limits.{no_tag, no_fid, version_name};
 ghost use Rattle.am_drill.specs.Drill.{asked_msize, message, opening, write, poll, flush, key, read};
 
-use am_journal::{Event, Journal, Side};
+use am_journal::{Event, Events, Side};
 use am_text::{Items, Names, NoMemory, Rune};
 use ninep_types::{NO_FID, NO_TAG, TBody, TMsg, VERSION_NAME};
 use std::alloc::Global;
@@ -83,7 +83,7 @@ fn open(fid: u32, mode: u8) -> Event
 }
 
 /// The events that come before the rounds.
-pub(crate) fn opening(alloc: Global) -> Result<Journal, NoMemory>
+pub(crate) fn opening(alloc: Global) -> Result<Events, NoMemory>
     ensures { IfOk result (λ events. events ≡ opening) }
 {
     let mut events = Items::new(alloc);

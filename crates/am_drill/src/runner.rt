@@ -1,14 +1,16 @@
 //! The editor of a drill.
 
-ghost use Rattle.std.specs.Prelude.{◌≡◌, ◌++◌, ◌∷◌, [], None, IfOk, OnOk, OnErr};
-ghost use Rattle.am_drill.specs.Brief.{IsNext, AreNext, IsCounted, Stopped};
+ghost use Rattle.std.specs.Prelude.{◌≡◌, ◌∷◌, [], None, IfOk, OnOk, OnErr};
+ghost use Rattle.am_journal.specs.declared.event.Format.TheVariants.{One};
+ghost use Rattle.am_journal.specs.Journal.{journal_in, longer};
+ghost use Rattle.am_drill.specs.Brief.{IsNext, AreNext, IsCounted, Stopped, followed};
 ghost use Rattle.am_drill.specs.Drill.{poll, flush, read, played_turn, round, drawn};
 
 use crate::counting::{Count, last_count};
 use crate::events::{flush, key, poll, read, write};
 use crate::numbers::{Turn, drawn, letter, turn_of};
 use acme_core::{Core, Refused};
-use am_journal::{Event, Journal};
+use am_journal::{Event, Events, Format};
 use am_text::NoMemory;
 use std::alloc::Global;
 
@@ -22,12 +24,12 @@ pub struct Runner {
 impl Runner {
     /// The empty editor.
     pub(crate) fn new(alloc: Global) -> Result<Runner, NoMemory>
-        ensures journal { IfOk result (λ runner. runner.core.journal ≡ []) }
+        ensures journal { IfOk result (λ runner. runner.core.journal ≡ journal_in One []) }
         ensures idle { IfOk result (λ runner. runner.core.planned ≡ None) }
         ensures counted { IfOk result (λ runner. IsCounted runner.count runner.core.journal) }
     {
         Ok(Runner {
-            core: Core::new(alloc)?,
+            core: Core::new(alloc, Format::One)?,
             count: Count {
                 replies: 0,
                 bytes: 0,
@@ -39,7 +41,7 @@ impl Runner {
         requires next { IsNext self.old.core.journal event }
         requires idle { self.old.core.planned ≡ None }
         requires counted { IsCounted self.old.count self.old.core.journal }
-        ensures ok { OnOk result (self.new.core.journal ≡ self.old.core.journal ++ event ∷ []) }
+        ensures ok { OnOk result (self.new.core.journal ≡ longer self.old.core.journal event) }
         ensures err { OnErr result (self.new.core.journal ≡ self.old.core.journal) }
         ensures idle { self.new.core.planned ≡ None }
         ensures counted { IsCounted self.new.count self.new.core.journal }
@@ -57,11 +59,11 @@ impl Runner {
     }
 
     /// Does events, one after another. Where memory runs out, a front of them was done.
-    pub(crate) fn play(&mut self, events: Journal) -> Result<(), NoMemory>
+    pub(crate) fn play(&mut self, events: Events) -> Result<(), NoMemory>
         requires next { AreNext self.old.core.journal events }
         requires idle { self.old.core.planned ≡ None }
         requires counted { IsCounted self.old.count self.old.core.journal }
-        ensures ok { OnOk result (self.new.core.journal ≡ self.old.core.journal ++ events) }
+        ensures ok { OnOk result (self.new.core.journal ≡ followed self.old.core.journal events) }
         ensures err { OnErr result (Stopped self.old.core.journal events self.new.core.journal) }
         ensures idle { self.new.core.planned ≡ None }
         ensures counted { IsCounted self.new.count self.new.core.journal }
@@ -77,7 +79,7 @@ impl Runner {
         requires next { AreNext self.old.core.journal (poll ∷ flush ∷ []) }
         requires idle { self.old.core.planned ≡ None }
         requires counted { IsCounted self.old.count self.old.core.journal }
-        ensures ok { OnOk result (self.new.core.journal ≡ self.old.core.journal ++ poll ∷ flush ∷ []) }
+        ensures ok { OnOk result (self.new.core.journal ≡ followed self.old.core.journal (poll ∷ flush ∷ [])) }
         ensures err { OnErr result (Stopped self.old.core.journal (poll ∷ flush ∷ []) self.new.core.journal) }
         ensures idle { self.new.core.planned ≡ None }
         ensures counted { IsCounted self.new.count self.new.core.journal }
@@ -91,7 +93,7 @@ impl Runner {
         requires next { AreNext self.old.core.journal (read ∷ Event.Took 0 ∷ []) }
         requires idle { self.old.core.planned ≡ None }
         requires counted { IsCounted self.old.count self.old.core.journal }
-        ensures ok { OnOk result (self.new.core.journal ≡ self.old.core.journal ++ read ∷ Event.Took 0 ∷ []) }
+        ensures ok { OnOk result (self.new.core.journal ≡ followed self.old.core.journal (read ∷ Event.Took 0 ∷ [])) }
         ensures err { OnErr result (Stopped self.old.core.journal (read ∷ Event.Took 0 ∷ []) self.new.core.journal) }
         ensures idle { self.new.core.planned ≡ None }
         ensures counted { IsCounted self.new.count self.new.core.journal }
@@ -105,7 +107,7 @@ impl Runner {
         requires next { AreNext self.old.core.journal (played_turn turn letter) }
         requires idle { self.old.core.planned ≡ None }
         requires counted { IsCounted self.old.count self.old.core.journal }
-        ensures ok { OnOk result (self.new.core.journal ≡ self.old.core.journal ++ played_turn turn letter) }
+        ensures ok { OnOk result (self.new.core.journal ≡ followed self.old.core.journal (played_turn turn letter)) }
         ensures err { OnErr result (Stopped self.old.core.journal (played_turn turn letter) self.new.core.journal) }
         ensures idle { self.new.core.planned ≡ None }
         ensures counted { IsCounted self.new.count self.new.core.journal }
@@ -129,7 +131,7 @@ impl Runner {
         requires next { AreNext self.old.core.journal (round number (drawn seed)) }
         requires idle { self.old.core.planned ≡ None }
         requires counted { IsCounted self.old.count self.old.core.journal }
-        ensures ok { OnOk result (self.new.core.journal ≡ self.old.core.journal ++ round number (drawn seed)) }
+        ensures ok { OnOk result (self.new.core.journal ≡ followed self.old.core.journal (round number (drawn seed))) }
         ensures err { OnErr result (Stopped self.old.core.journal (round number (drawn seed)) self.new.core.journal) }
         ensures idle { self.new.core.planned ≡ None }
         ensures counted { IsCounted self.new.count self.new.core.journal }

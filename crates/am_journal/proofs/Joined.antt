@@ -4,11 +4,13 @@ use Rattle.std.proofs.Common.{arith}
 use Rattle.std.specs.List.{flat_map}
 use Rattle.std.proofs.lemmas.List.{append-nil, take_more, length-take-le}
 use Rattle.std.proofs.lemmas.Grind.{flat_map-append}
+use Rattle.am_journal.specs.declared.event.Format.{Format}
 use Rattle.am_journal.specs.declared.view.ConnView.{ConnView}
 use Rattle.am_journal.specs.declared.view.WindowView.{WindowView}
 use Rattle.am_journal.specs.declared.view.ItemView.{ItemView}
 use Rattle.am_text.specs.declared.job.Job.{Job}
-use Rattle.am_journal.specs.Report.{conn_line, window_lines, item_line, request_lines, requests_from}
+use Rattle.am_text.specs.Requests.{request_lines}
+use Rattle.am_journal.specs.Report.{conn_line, window_lines, item_line, requests_from}
 
 -- one more member of a list whose members are written one after the other
 pub flat_map-more : {A : Type 0} (f : A → List ℕ) (xs : List A) (i : ℕ) (x : A) → i < length xs
@@ -16,9 +18,10 @@ pub flat_map-more : {A : Type 0} (f : A → List ℕ) (xs : List A) (i : ℕ) (x
 flat_map-more f xs i x h = rw (take_more xs i x h, flat_map-append)
     (ap (λ (l : List ℕ). flat_map f (take i xs) ++ l) (append-nil (f (get_or xs i x))))
 
-pub conns_more : (vs : List ConnView) (i : ℕ) (v : ConnView) → i < length vs
-    → flat_map conn_line (take (i + 1) vs) ≡ flat_map conn_line (take i vs) ++ conn_line (get_or vs i v)
-conns_more vs i v h = flat_map-more conn_line vs i v h
+pub conns_more : (format : Format) (vs : List ConnView) (i : ℕ) (v : ConnView) → i < length vs
+    → flat_map (conn_line format) (take (i + 1) vs)
+    ≡ flat_map (conn_line format) (take i vs) ++ conn_line format (get_or vs i v)
+conns_more format vs i v h = flat_map-more (conn_line format) vs i v h
 
 pub windows_more : (vs : List WindowView) (i : ℕ) (v : WindowView) → i < length vs
     → flat_map window_lines (take (i + 1) vs) ≡ flat_map window_lines (take i vs) ++ window_lines (get_or vs i v)

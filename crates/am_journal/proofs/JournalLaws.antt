@@ -1,7 +1,7 @@
 -- A journal's lines, and a report after them, are read as that journal.
 use Rattle.std.proofs.Common.{◌≡◌, ℕ, ◌+◌, ◌/◌, ◌%◌, ◌^◌, ◌<◌, true, false, cond, eqb, ltb, List, [], ◌∷◌, ◌++◌, map}
 use Rattle.std.proofs.Common.{Some, refl, ap, ◌∙◌, append_assoc, arith, inl, inr}
-use Rattle.std.specs.Prelude.{codes}
+use Rattle.std.specs.Prelude.{codes, option_map}
 use Rattle.std.specs.Char.{encode_utf8}
 use Rattle.std.specs.Fmt.{decimal}
 use Rattle.std.specs.List.{AllByRecursion, flat_map, onto_first}
@@ -26,9 +26,13 @@ use Rattle.am_journal.specs.Lawful.{IsLawful, IsInRange, IsSpotInRange}
 use Rattle.am_journal.specs.Paths.{is_path_text}
 use Rattle.am_journal.specs.Line.{side_word, dial_line, msg_line, hang_line, took_line, new_line, key_line, sel_line}
 use Rattle.am_journal.specs.Line.{spot_words, exec_line, arg_line, look_line, file_line, dir_line, line_text}
-use Rattle.am_journal.specs.Parts.{around}
+use Rattle.am_text.specs.Fields.{around}
 use Rattle.am_journal.specs.Report.{title, report_text}
-use Rattle.am_journal.specs.Journal.{is_report, events_of, journal_text}
+use Rattle.am_journal.specs.declared.event.Format.{Format}
+use Rattle.am_journal.specs.declared.event.Format.TheVariants.{One, Two}
+use Rattle.am_journal.specs.declared.event.Journal.{Journal}
+use Rattle.am_journal.specs.Journal.{journal_in, is_heading, format_of, behind_heading, is_report, events_of, events_text}
+use Rattle.am_journal.specs.Journal.{journal_of, journal_text, AreSpelled}
 use Rattle.am_journal.proofs.FieldWords.{AreVisible, decimal-visible}
 use Rattle.am_journal.proofs.PathLaws.{path_text-visible}
 use Rattle.am_journal.proofs.LineLaws.{line-again}
@@ -312,15 +316,15 @@ lines_of-line : (line rest : List ℕ) → AreOneLine line → lines_of (line ++
 lines_of-line [] rest h = refl
 lines_of-line (b ∷ bs) rest h = rw (h.0) (ap (onto_first b) (lines_of-line bs rest h.1))
 
--- the lines of a journal's text are those of its events
+-- the lines of events' text are those of the events
 pub lines_of-journal : (journal : List Event) (rest : List ℕ) → AllByRecursion IsLawful journal
-    → AllByRecursion IsInRange journal → lines_of (journal_text journal ++ rest) ≡ map line_text journal
+    → AllByRecursion IsInRange journal → lines_of (events_text journal ++ rest) ≡ map line_text journal
     ++ lines_of rest
 lines_of-journal [] rest h k = refl
 lines_of-journal (e ∷ es) rest h k =
-    ap lines_of (append_assoc (line_text e ++ 10 ∷ []) (journal_text es) rest
-    ∙ append_assoc (line_text e) (10 ∷ []) (journal_text es ++ rest))
-    ∙ lines_of-line (line_text e) (journal_text es ++ rest) (line-one_line e h.0 k.0)
+    ap lines_of (append_assoc (line_text e ++ 10 ∷ []) (events_text es) rest
+    ∙ append_assoc (line_text e) (10 ∷ []) (events_text es ++ rest))
+    ∙ lines_of-line (line_text e) (events_text es ++ rest) (line-one_line e h.0 k.0)
     ∙ ap (λ (l : List (List ℕ)). line_text e ∷ l) (lines_of-journal es rest h.1 k.1)
 
 -- a report begins with a line `report`
@@ -341,10 +345,53 @@ events-journal [] lines h k end = end
 events-journal (e ∷ es) lines h k end = events-line e (map line_text es ++ lines) es h.0 k.0
     (events-journal es lines h.1 k.1 end)
 
-pub reads_journal : (journal : List Event) (v : View) → AllByRecursion IsLawful journal
-    × AllByRecursion IsInRange journal → events_of (lines_of (journal_text journal ++ report_text v)) ≡ Some journal
-reads_journal journal v fits =
-    let report = lines_of-report v in
-    ap events_of (lines_of-journal journal (report_text v) fits.0 fits.1
-    ∙ ap (λ (l : List (List ℕ)). map line_text journal ++ l) report.1)
-    ∙ events-journal journal (codes "report" ∷ report.0) fits.0 fits.1 refl
+-- the line of an event is no heading
+line-no_heading : (e : Event) → is_heading (line_text e) ≡ false
+unfolding dial_line msg_line hang_line took_line new_line key_line sel_line exec_line arg_line look_line file_line
+    dir_line around
+line-no_heading (event.Dial c) = refl
+line-no_heading (event.Msg c m) = refl
+line-no_heading (event.Hang c why) = refl
+line-no_heading (event.Took c) = refl
+line-no_heading event.New = refl
+line-no_heading (event.Key w on text) = refl
+line-no_heading (event.Sel w range) = refl
+line-no_heading (event.Exec at) = refl
+line-no_heading (event.Arg at chord) = refl
+line-no_heading (event.Look at) = refl
+line-no_heading (event.File path text) = refl
+line-no_heading (event.Dir path) = refl
+
+-- lines of events and a line `report` have no heading
+plain-journal : (events : List Event) (rest : List (List ℕ))
+    → journal_of (map line_text events ++ codes "report" ∷ rest)
+    ≡ option_map (journal_in One) (events_of (map line_text events ++ codes "report" ∷ rest))
+plain-journal [] rest = refl
+plain-journal (e ∷ es) rest = rw (line-no_heading e) refl
+
+reads_events : (events : List Event) (v : View) → AreSpelled events → (rest : List (List ℕ))
+    × ((lines_of (events_text events ++ report_text v) ≡ map line_text events ++ codes "report" ∷ rest)
+    × (events_of (map line_text events ++ codes "report" ∷ rest) ≡ Some events))
+reads_events events v fits =
+    let report = lines_of-report v in (
+      report.0,
+      (
+        lines_of-journal events (report_text v) fits.0 fits.1
+            ∙ ap (λ (l : List (List ℕ)). map line_text events ++ l) report.1,
+        events-journal events (codes "report" ∷ report.0) fits.0 fits.1 refl,
+      ),
+    )
+
+reads : (format : Format) (events : List Event) (v : View) → AreSpelled events
+    → journal_of (lines_of (journal_text (journal_in format events) ++ report_text v))
+    ≡ Some (journal_in format events)
+reads One events v fits =
+    let read = reads_events events v fits in
+    ap journal_of read.1.0 ∙ plain-journal events read.0 ∙ ap (option_map (journal_in One)) read.1.1
+reads Two events v fits =
+    let read = reads_events events v fits in
+    ap (option_map (journal_in Two)) (ap events_of read.1.0 ∙ read.1.1)
+
+pub reads_journal : (journal : Journal) (v : View) → AreSpelled journal.events
+    → journal_of (lines_of (journal_text journal ++ report_text v)) ≡ Some journal
+reads_journal journal v fits = reads journal.format journal.events v fits

@@ -25,7 +25,7 @@ use Rattle.am_journal.specs.Line.{side_word, dial_line, msg_line, hang_line, too
 use Rattle.am_journal.specs.Line.{dial_from, dial_at, msg_read, msg_from, msg_at, hang_from, hang_at, took_from}
 use Rattle.am_journal.specs.Line.{took_at, new_at, key_line, key_at, sel_line, sel_at, exec_from, exec_line, arg_line}
 use Rattle.am_journal.specs.Line.{look_from, look_line, file_line, dir_line, with_front, action_of, event_of}
-use Rattle.am_journal.specs.Parts.{around}
+use Rattle.am_text.specs.Fields.{around}
 use Rattle.am_journal.proofs.HexLaws.{hex-again, hex-is}
 use Rattle.am_journal.proofs.CauseLaws.{ending-again, ending-is}
 use Rattle.am_journal.proofs.FieldWords.{decimal-visible, first-is, after-is, split-is, conn-again, conn-is, front-is}

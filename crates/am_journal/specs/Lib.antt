@@ -2,7 +2,6 @@ pub mod Paths
 pub mod Lawful
 pub mod Limits
 pub mod Hexadecimal
-pub mod Parts
 pub mod Causes
 pub mod Line
 pub mod Texts

@@ -22,7 +22,7 @@ use Rattle.am_journal.specs.declared.event.Side.TheVariants as side
 use Rattle.am_journal.specs.declared.event.Spot.{Spot}
 use Rattle.am_journal.specs.Hexadecimal.{hex_of, bytes_of_hex}
 use Rattle.am_journal.specs.Limits.{connection_count}
-use Rattle.am_journal.specs.Parts.{around}
+use Rattle.am_text.specs.Fields.{around}
 use Rattle.am_journal.specs.Paths.{is_path_text}
 use Rattle.am_journal.specs.declared.ending.Ending.{Ending}
 use Rattle.am_journal.specs.Causes.{cause, ending_of}

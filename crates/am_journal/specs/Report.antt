@@ -1,23 +1,23 @@
 -- The report on the editor.
 use Rattle.std.specs.Prelude.{ℕ, ◌+◌, Bool, true, false, List, [], ◌∷◌, ◌++◌, length, Option, Some, None, codes}
 use Rattle.std.specs.List.{flat_map}
-use Rattle.am_text.specs.Ascii.{newline, space, colon}
-use Rattle.am_text.specs.Lines.{escaped}
+use Rattle.am_text.specs.Ascii.{newline, space}
+use Rattle.am_text.specs.Fields.{around, text_end}
+use Rattle.am_text.specs.Requests.{request_lines}
 use Rattle.std.specs.Fmt.{decimal}
 use Rattle.am_text.specs.Utf8.{decode}
 use Rattle.am_text.specs.declared.range.Range.{Range}
 use Rattle.am_text.specs.declared.job.Job.{Job}
-use Rattle.am_text.specs.declared.job.JobKind.{JobKind}
-use Rattle.am_text.specs.declared.job.JobKind.TheVariants as kind
 use Rattle.win_events.specs.declared.item.Life.{Life}
 use Rattle.win_events.specs.declared.item.Life.TheVariants as life
 use Rattle.am_journal.specs.declared.ending.Ending.{Ending}
+use Rattle.am_journal.specs.declared.event.Format.{Format}
+use Rattle.am_journal.specs.declared.event.Format.TheVariants.{One, Two}
 use Rattle.am_journal.specs.declared.view.ConnView.{ConnView}
 use Rattle.am_journal.specs.declared.view.WindowView.{WindowView}
 use Rattle.am_journal.specs.declared.view.ItemView.{ItemView}
 use Rattle.am_journal.specs.declared.view.View.{View}
 use Rattle.am_journal.specs.Causes.{cause}
-use Rattle.am_journal.specs.Parts.{around}
 
 -- ---- connections
 
@@ -32,13 +32,15 @@ conn_state (Some e) = codes "ended " ++ cause e
 abbrev pub count_line : List ℕ → ℕ → List ℕ
 count_line name n = around name n (newline ∷ [])
 
--- `connection C live`, or `connection C ended CAUSE`
-unfoldable pub conn_line : ConnView → List ℕ
-conn_line v = around (codes "connection ") v.conn (space ∷ []) ++ conn_state v.ending ++ newline ∷ []
+-- the end of a connection's line: in format 2 it tells its user
+abbrev pub user_end : Format → List ℕ → List ℕ
+user_end One user = newline ∷ []
+user_end Two user = space ∷ text_end (decode user)
 
--- a text in one line, after a colon
-unfoldable pub text_end : List ℕ → List ℕ
-text_end text = colon ∷ flat_map escaped text ++ newline ∷ []
+-- `connection C live`, or `connection C ended CAUSE`, in format 2 with ` :USER` behind it
+unfoldable pub conn_line : Format → ConnView → List ℕ
+conn_line format v =
+    around (codes "connection ") v.conn (space ∷ []) ++ conn_state v.ending ++ user_end format v.user
 
 -- 0 or 1, with a blank after it
 abbrev pub modified_word : Bool → List ℕ
@@ -79,29 +81,6 @@ item_line v = around (codes "item ") v.window (space ∷ []) ++ (around [] v.num
 
 -- ---- requests
 
--- the word of a request's kind
-abbrev pub kind_word : JobKind → List ℕ
-kind_word kind.Run = codes "run"
-kind_word kind.Pipe = codes "pipe"
-kind_word kind.From = codes "from"
-kind_word kind.To = codes "to"
-kind_word kind.Save = codes "save"
-kind_word kind.Start = codes "start"
-
--- `request K KIND W DIR :COMMAND`
-unfoldable pub request_line : ℕ → Job → List ℕ
-request_line k job =
-    around (codes "request ") k (space ∷ []) ++ (kind_word job.kind ++ (around (space ∷ []) job.window (space ∷ [])
-    ++ (flat_map escaped job.dir ++ space ∷ text_end job.command)))
-
--- `input :TEXT`
-unfoldable pub input_line : Job → List ℕ
-input_line job = codes "input " ++ text_end job.input
-
--- the two lines of a request
-abbrev pub request_lines : ℕ → Job → List ℕ
-request_lines k job = request_line k job ++ input_line job
-
 -- those from number k on
 abbrev pub requests_from : ℕ → List Job → List ℕ
 requests_from k [] = []
@@ -115,7 +94,7 @@ title = codes "report" ++ newline ∷ []
 
 -- the connections
 unfoldable pub conns_part : View → List ℕ
-conns_part v = count_line (codes "connections ") (length v.conns) ++ flat_map conn_line v.conns
+conns_part v = count_line (codes "connections ") (length v.conns) ++ flat_map (conn_line v.format) v.conns
 
 -- the windows
 unfoldable pub windows_part : View → List ℕ

@@ -4,7 +4,7 @@ use Rattle.am_text.specs.Ascii.{newline, space}
 use Rattle.am_journal.specs.declared.event.Why.{Why}
 use Rattle.am_journal.specs.declared.event.Why.TheVariants as why
 use Rattle.am_journal.specs.Hexadecimal.{hex_of}
-use Rattle.am_journal.specs.Parts.{around}
+use Rattle.am_text.specs.Fields.{around}
 
 -- the line of a message to a connection
 unfoldable pub reply_text : ℕ → List ℕ → List ℕ

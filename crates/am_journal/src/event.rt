@@ -88,8 +88,15 @@ pub enum Format {
     Two,
 }
 
-/// All events that were done, in their order. Entries are numbered from 1.
-pub type Journal = Items<Event>;
+/// Events in their order.
+pub type Events = Items<Event>;
+
+/// A format, and all events that were done. Its entries are these events, numbered from 1.
+#[derive(Drop)]
+pub struct Journal {
+    pub format: Format,
+    pub events: Events,
+}
 
 /// Why an event isn't enabled.
 #[derive(Clone, Copy, Debug, PartialEq, Eq)]

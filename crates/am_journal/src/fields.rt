@@ -1,14 +1,13 @@
 //! Fields of a line.
 
-ghost use Rattle.std.specs.Prelude.{◌≡◌, ◌<◌, ◌++◌, OnOk, IfOk, IfSome};
+ghost use Rattle.std.specs.Prelude.{◌≡◌, ◌<◌, IfOk, IfSome};
 ghost use Rattle.am_journal.specs.Line.{conn_at, window_at, side_word, side_of, text_of, range_from, range_at};
 ghost use Rattle.am_text.specs.Number.{number_of};
 ghost use Rattle.am_journal.specs.Limits.{connection_count};
-ghost use Rattle.am_journal.specs.Parts.{around};
 
 use crate::event::Side;
 use crate::limits::CONNECTIONS;
-use am_text::{Bytes, NoMemory, Range, Runes, cut_field, decimal, read_decimal, unescape};
+use am_text::{NoMemory, Range, Runes, cut_field, read_decimal, unescape};
 use std::alloc::Global;
 
 /// The number of a connection.
@@ -89,21 +88,4 @@ pub(crate) fn range_of(bytes: &[u8]) -> Option<Range>
 {
     let (first, second) = cut_field(bytes);
     range_between(first, second)
-}
-
-/// Puts a number between two texts at the end.
-#[tactic(auto, using(crate::proofs::Joined::joined), unfolding(crate::specs::Parts::around))]
-pub(crate) fn put_around(
-    alloc: Global,
-    out: &mut Bytes,
-    before: &[u8],
-    n: u64,
-    after: &[u8],
-) -> Result<(), NoMemory>
-    ensures { OnOk result (out.new ≡ out.old ++ around before.now n after.now) }
-{
-    out.append(before)?;
-    out.append(decimal(alloc, n)?.as_slice())?;
-    out.append(after)?;
-    Ok(())
 }

@@ -6,6 +6,7 @@ mod causes;
 mod ending;
 mod event;
 mod fields;
+mod headings;
 mod hexadecimal;
 mod laws;
 mod limits;
@@ -18,7 +19,8 @@ mod view;
 
 pub use am_text::{Bytes, Items, Job, JobKind, Jobs, NoMemory, Range, Runes};
 pub use ending::{Bad, Ending};
-pub use event::{Event, Format, Journal, Refused, Side, Spot, Why};
+pub use event::{Event, Events, Format, Journal, Refused, Side, Spot, Why};
+pub use headings::{heading, split_heading};
 pub use hexadecimal::{bytes_of_hex, put_hex};
 pub use laws::{journals_are_read_again, lines_are_read_again};
 pub use limits::CONNECTIONS;

@@ -11,9 +11,9 @@ use crate::actions::{action_in, arg_text, dir_text, exec_text, file_text, look_t
 use crate::causes::{ending_of, put_cause};
 use crate::ending::Ending;
 use crate::event::{Event, Side};
-use crate::fields::{conn_of, put_around, range_of, side_of, side_word, text_of, window_of};
+use crate::fields::{conn_of, range_of, side_of, side_word, text_of, window_of};
 use crate::hexadecimal::{bytes_of_hex, hex_text};
-use am_text::{Bytes, Items, NoMemory, Range, after_front, cut_field, decimal, escape};
+use am_text::{Bytes, Items, NoMemory, Range, after_front, cut_field, decimal, escape, put_around};
 use ninep_types::{MAX_MSIZE, TMsg, WireError};
 use ninep_wire::{read_t, write_t};
 use std::alloc::Global;

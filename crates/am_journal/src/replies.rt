@@ -4,9 +4,8 @@ ghost use Rattle.std.specs.Prelude.{◌≡◌, ◌++◌, IfOk};
 ghost use Rattle.am_journal.specs.Texts.{reply_text, refused_text, word_of};
 
 use crate::event::Why;
-use crate::fields::put_around;
 use crate::hexadecimal::hex_text;
-use am_text::{Bytes, Items, NoMemory};
+use am_text::{Bytes, Items, NoMemory, put_around};
 use std::alloc::Global;
 
 /// The line `reply C HEX` of a message to a connection, with its newline.

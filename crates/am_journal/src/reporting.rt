@@ -3,16 +3,18 @@
 ghost use Rattle.std.specs.Prelude.{◌≡◌, ◌++◌, OnOk, IfOk, length};
 ghost use Rattle.std.specs.List.{flat_map};
 ghost use Rattle.std.specs.Fmt.{decimal};
-ghost use Rattle.am_journal.specs.Report.{conn_state, conn_line, text_end, modified_word, dot_words, window_line};
+ghost use Rattle.am_journal.specs.Report.{conn_state, user_end, conn_line, modified_word, dot_words, window_line};
 ghost use Rattle.am_journal.specs.Report.{body_line, window_lines, title, conns_part, windows_part, life_words};
-ghost use Rattle.am_journal.specs.Report.{item_line, items_part, kind_word, request_line, input_line, request_lines};
-ghost use Rattle.am_journal.specs.Report.{requests_from, requests_part, report_text};
+ghost use Rattle.am_journal.specs.Report.{item_line, items_part, requests_from, requests_part, report_text};
 
 use crate::causes::{put_cause, put_two};
 use crate::ending::Ending;
-use crate::fields::put_around;
+use crate::event::Format;
 use crate::view::{ConnView, ItemView, View, WindowView};
-use am_text::{Bytes, Items, Job, JobKind, NoMemory, Range, decimal, decode_whole, escape};
+use am_text::{
+    Bytes, Items, Job, NoMemory, Range, decimal, decode_whole, put_around, put_request_lines,
+    put_text_end,
+};
 use std::alloc::Global;
 use win_events::Life;
 
@@ -30,33 +32,41 @@ fn put_state(alloc: Global, out: &mut Bytes, ending: Option<Ending>) -> Result<(
     }
 }
 
+#[tactic(auto, using(crate::proofs::Joined::joined))]
+fn put_user(alloc: Global, out: &mut Bytes, format: Format, user: &[u8]) -> Result<(), NoMemory>
+    ensures { OnOk result (out.new ≡ out.old ++ user_end format user.now) }
+{
+    match format {
+        Format::One => out.append(b"\n"),
+        Format::Two => {
+            out.append(b" ")?;
+            put_text_end(alloc, out, decode_whole(alloc, user)?.as_slice())
+        }
+    }
+}
+
 #[tactic(auto, using(crate::proofs::Joined::joined), unfolding(crate::specs::Report::conn_line))]
-fn put_conn(alloc: Global, out: &mut Bytes, view: &ConnView) -> Result<(), NoMemory>
-    ensures { OnOk result (out.new ≡ out.old ++ conn_line view.now) }
+fn put_conn(alloc: Global, out: &mut Bytes, format: Format, view: &ConnView) -> Result<(), NoMemory>
+    ensures { OnOk result (out.new ≡ out.old ++ conn_line format view.now) }
 {
     put_around(alloc, out, b"connection ", u64::from(view.conn), b" ")?;
     put_state(alloc, out, view.ending)?;
-    out.append(b"\n")?;
+    put_user(alloc, out, format, view.user.as_slice())?;
     Ok(())
 }
 
 #[tactic(auto, using(crate::proofs::Joined::conns))]
-fn put_conns(alloc: Global, out: &mut Bytes, views: &[ConnView]) -> Result<(), NoMemory>
-    ensures { OnOk result (out.new ≡ out.old ++ flat_map conn_line views.now) }
+fn put_conns(
+    alloc: Global,
+    out: &mut Bytes,
+    format: Format,
+    views: &[ConnView],
+) -> Result<(), NoMemory>
+    ensures { OnOk result (out.new ≡ out.old ++ flat_map (conn_line format) views.now) }
 {
     for view in views {
-        put_conn(alloc, out, view)?;
+        put_conn(alloc, out, format, view)?;
     }
-    Ok(())
-}
-
-#[tactic(auto, using(crate::proofs::Joined::joined), unfolding(crate::specs::Report::text_end))]
-fn put_text_end(alloc: Global, out: &mut Bytes, text: &[u32]) -> Result<(), NoMemory>
-    ensures { OnOk result (out.new ≡ out.old ++ text_end text.now) }
-{
-    out.append(b":")?;
-    out.append(escape(alloc, text)?.as_slice())?;
-    out.append(b"\n")?;
     Ok(())
 }
 
@@ -118,7 +128,7 @@ fn put_conns_part(alloc: Global, out: &mut Bytes, view: &View) -> Result<(), NoM
     ensures { OnOk result (out.new ≡ out.old ++ conns_part view.now) }
 {
     put_around(alloc, out, b"connections ", view.conns.len() as u64, b"\n")?;
-    put_conns(alloc, out, view.conns.as_slice())?;
+    put_conns(alloc, out, view.format, view.conns.as_slice())?;
     Ok(())
 }
 
@@ -182,48 +192,12 @@ fn put_items(alloc: Global, out: &mut Bytes, views: &[ItemView]) -> Result<(), N
     Ok(())
 }
 
-fn kind_word(kind: JobKind) -> &'static [u8]
-    ensures { result.now ≡ kind_word kind }
-{
-    match kind {
-        JobKind::Run => b"run",
-        JobKind::Pipe => b"pipe",
-        JobKind::From => b"from",
-        JobKind::To => b"to",
-        JobKind::Save => b"save",
-        JobKind::Start => b"start",
-    }
-}
-
-#[tactic(auto, using(crate::proofs::Joined::joined), unfolding(crate::specs::Report::request_line))]
-fn put_request_line(alloc: Global, out: &mut Bytes, k: u64, job: &Job) -> Result<(), NoMemory>
-    ensures { OnOk result (out.new ≡ out.old ++ request_line k job.now) }
-{
-    put_around(alloc, out, b"request ", k, b" ")?;
-    out.append(kind_word(job.kind))?;
-    put_around(alloc, out, b" ", u64::from(job.window), b" ")?;
-    out.append(escape(alloc, job.dir.as_slice())?.as_slice())?;
-    out.append(b" ")?;
-    put_text_end(alloc, out, job.command.as_slice())?;
-    Ok(())
-}
-
-#[tactic(auto, using(crate::proofs::Joined::joined), unfolding(crate::specs::Report::input_line))]
-fn put_input_line(alloc: Global, out: &mut Bytes, job: &Job) -> Result<(), NoMemory>
-    ensures { OnOk result (out.new ≡ out.old ++ input_line job.now) }
-{
-    out.append(b"input ")?;
-    put_text_end(alloc, out, job.input.as_slice())?;
-    Ok(())
-}
-
 #[tactic(auto, using(crate::proofs::Joined::requests))]
 fn put_requests(alloc: Global, out: &mut Bytes, jobs: &[Job]) -> Result<(), NoMemory>
     ensures { OnOk result (out.new ≡ out.old ++ requests_from 1 jobs.now) }
 {
     for (i, job) in jobs.iter().enumerate() {
-        put_request_line(alloc, out, i as u64 + 1, job)?;
-        put_input_line(alloc, out, job)?;
+        put_request_lines(alloc, out, i as u64 + 1, job)?;
     }
     Ok(())
 }

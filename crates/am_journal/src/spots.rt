@@ -4,8 +4,8 @@ ghost use Rattle.std.specs.Prelude.{◌≡◌, ◌++◌, OnOk};
 ghost use Rattle.am_journal.specs.Line.{window_at, side_of, spot_from, spot_at, first_spot, after_spot, spot_words};
 
 use crate::event::Spot;
-use crate::fields::{put_around, range_between, range_of, side_of, side_word, window_of};
-use am_text::{Bytes, NoMemory, Range, cut_field, decimal};
+use crate::fields::{range_between, range_of, side_of, side_word, window_of};
+use am_text::{Bytes, NoMemory, Range, cut_field, decimal, put_around};
 use std::alloc::Global;
 
 fn spot_from(window: &[u8], word: &[u8], range: Option<Range>) -> Option<Spot>
@@ -43,7 +43,7 @@ pub(crate) fn cut_spot(bytes: &[u8]) -> (Option<Spot>, &[u8])
 }
 
 /// Puts the words of a range of a window's text at the end.
-#[tactic(auto, using(crate::proofs::Joined::joined), unfolding(crate::specs::Line::spot_words, crate::specs::Parts::around))]
+#[tactic(auto, using(crate::proofs::Joined::joined), unfolding(crate::specs::Line::spot_words, am_text::specs::Fields::around))]
 pub(crate) fn put_spot(alloc: Global, out: &mut Bytes, at: Spot) -> Result<(), NoMemory>
     ensures { OnOk result (out.new ≡ out.old ++ spot_words at) }
 {

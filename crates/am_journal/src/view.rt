@@ -1,14 +1,17 @@
 //! What a report tells of the editor.
 
 use crate::ending::Ending;
+use crate::event::Format;
 use am_text::{Bytes, Items, Jobs, Range, Runes};
 use win_events::Life;
 
-/// A connection that was dialled, and why it ended, if it did.
-#[derive(Clone, Copy, Debug, PartialEq, Eq)]
+/// A connection that was dialled, why it ended, if it did, and its user: the uname of its last Tattach that was answered
+/// by Rattach, empty where there is none.
+#[derive(Drop)]
 pub struct ConnView {
     pub conn: u32,
     pub ending: Option<Ending>,
+    pub user: Bytes,
 }
 
 /// Connections, by rising number.
@@ -39,9 +42,10 @@ pub struct ItemView {
 /// Items, by window and number.
 pub type ItemViews = Items<ItemView>;
 
-/// The editor after so many entries of its journal. Its requests are numbered from 1.
+/// The editor after so many entries of its journal, which has a format. Its requests are numbered from 1.
 #[derive(Drop)]
 pub struct View {
+    pub format: Format,
     pub entries: u64,
     pub conns: ConnViews,
     pub windows: WindowViews,

@@ -1,10 +1,10 @@
 -- How the parts of packing make the whole.
-use Rattle.std.proofs.Common.{◌≡◌, ℕ, ◌<◌, ◌≤◌, zero, suc, List, [], ◌∷◌, length, Option, Some, None, refl, sym, ap}
-use Rattle.std.proofs.Common.{subst, ◌∙◌, arith}
+use Rattle.std.proofs.Common.{◌≡◌, ℕ, ◌<◌, zero, suc, List, [], ◌∷◌, length, Option, Some, None, refl}
+use Rattle.std.proofs.Common.{subst, arith}
 use Rattle.std.specs.Prelude.{IfSome}
 use Rattle.am_base.specs.Outside.{BytesTold, AreTold}
 use Rattle.am_base.specs.Seen.{Seen}
-use Rattle.am_journal.specs.declared.event.Event.{Event}
+use Rattle.am_journal.specs.declared.event.Journal.{Journal}
 use Rattle.am_replay.specs.declared.packing.Packing.{Packing}
 use Rattle.am_replay.specs.declared.program.PackEnd.{PackEnd}
 use Rattle.am_replay.specs.declared.program.PackEnd.TheVariants.{Done, Script, ReadFault, WriteFault, NoMemory}
@@ -14,7 +14,7 @@ use Rattle.am_replay.proofs.Packings.{long_text}
 
 -- what was packed is what some bytes spell
 pub says : (end : PackEnd) (packing : Packing) (bytes : List ℕ) (before now : BytesTold) (o : Seen)
-    (journal : List Event)
+    (journal : Journal)
     → packing ≡ packing_of bytes → AreTold before.bytes bytes → Packs end packing o journal
     → PackSays end before now o journal
 says Done packing bytes before now o journal e t p = (bytes, t, subst (λ (x : Packing). Packs Done x o journal) e p)
@@ -38,7 +38,7 @@ long_bytes : (limit : ℕ) (told : Option (List ℕ)) → IfSome told (λ bytes.
 long_bytes limit None h = let r = longer limit in (r.0, r.1, tt)
 long_bytes limit (Some bytes) h = (bytes, h, refl)
 
-pub says_long : (end : PackEnd) (before now : BytesTold) (o : Seen) (journal : List Event)
+pub says_long : (end : PackEnd) (before now : BytesTold) (o : Seen) (journal : Journal)
     → IfSome before.bytes (λ bytes. pack_limit < length bytes) → Packs end too_long o journal
     → PackSays end before now o journal
 says_long end before now o journal h p =

@@ -7,9 +7,11 @@ use Rattle.std.proofs.lemmas.List.{append-nil, take_more}
 use Rattle.std.proofs.lemmas.Grind.{flat_map-append, fold-append}
 use Rattle.std.proofs.lemmas.Option.{slice_get_within, get_or_from_slice_get}
 use Rattle.am_journal.specs.declared.event.Event.{Event}
+use Rattle.am_journal.specs.declared.event.Journal.{Journal}
+use Rattle.am_journal.specs.Journal.{longer}
 use Rattle.core_outputs.specs.declared.reply.Reply.{Reply}
 use Rattle.acme_core.specs.Run.{step, run}
-use Rattle.core_parts.specs.States.{State, start}
+use Rattle.core_parts.specs.States.{State, start_of}
 use Rattle.am_replay.specs.Scripts.{reply_line, reply_lines, replied_from, replied}
 
 -- one reply more
@@ -43,11 +45,12 @@ replied-append s (e ∷ a) b = ap (λ (x : List ℕ). reply_lines (step s e).rep
     (replied_from (fold step (step s e) a) b))
 
 -- the replies of one event more
-pub replied-push : (events : List Event) (e : Event) → replied (events ++ e ∷ []) ≡ replied events
-    ++ reply_lines (run (events ++ e ∷ [])).replies
+pub replied-push : (journal : Journal) (e : Event) → replied (longer journal e) ≡ replied journal
+    ++ reply_lines (run (longer journal e)).replies
 unfolding replied_from run
-replied-push events e =
-    replied-append start events (e ∷ [])
-    ∙ ap (λ (x : List ℕ). replied_from start events ++ x) (append-nil
-    (reply_lines (step (fold step start events) e).replies) ∙ ap (λ (s : State). reply_lines s.replies)
-    (sym (fold-append step start events (e ∷ []))))
+replied-push journal e =
+    let start = start_of journal.format in
+    replied-append start journal.events (e ∷ [])
+    ∙ ap (λ (x : List ℕ). replied_from start journal.events ++ x) (append-nil
+    (reply_lines (step (fold step start journal.events) e).replies) ∙ ap (λ (s : State). reply_lines s.replies)
+    (sym (fold-append step start journal.events (e ∷ []))))

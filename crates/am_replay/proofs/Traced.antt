@@ -1,5 +1,5 @@
 -- A trace, one entry further, and how its parts make the whole.
-use Rattle.std.proofs.Common.{◌≡◌, ◌⊎◌, inl, inr, ℕ, ◌+◌, ◌<◌, ◌≤◌, Bool, true, false, suc, zero, List, [], ◌∷◌, ◌++◌}
+use Rattle.std.proofs.Common.{◌≡◌, inl, inr, ℕ, ◌+◌, ◌<◌, ◌≤◌, Bool, true, false, suc, zero, List, [], ◌∷◌, ◌++◌}
 use Rattle.std.proofs.Common.{length, get_or, take, codes, Option, Some, None, refl, sym, ap, subst, ◌∙◌, append_assoc}
 use Rattle.std.proofs.Common.{arith, length-append}
 use Rattle.std.specs.Prelude.{IfSome, slice_get}
@@ -8,28 +8,33 @@ use Rattle.std.proofs.lemmas.List.{append-nil, take_more}
 use Rattle.std.proofs.lemmas.Grind.{flat_map-append, fold-append}
 use Rattle.std.proofs.lemmas.Option.{slice_get_within, get_or_from_slice_get}
 use Rattle.am_text.specs.Lines.{lines_of}
-use Rattle.am_base.specs.Outside.{BytesTold, AreTold, PutsFront, told_then}
+use Rattle.am_base.specs.Outside.{BytesTold, AreTold}
 use Rattle.am_base.specs.Stops.{input_limit}
 use Rattle.am_base.specs.Seen.{Seen, seen}
-use Rattle.am_base.specs.Written.{IsWhole, IsCut}
 use Rattle.am_counter.specs.Played.{ArePlayed}
 use Rattle.am_journal.specs.declared.event.Event.{Event}
+use Rattle.am_journal.specs.declared.event.Format.{Format}
+use Rattle.am_journal.specs.declared.event.Journal.{Journal}
+use Rattle.am_journal.specs.Journal.{journal_in, longer, first_line, heading_text}
 use Rattle.am_journal.specs.Lawful.{IsLawful}
+use Rattle.am_journal.specs.declared.event.Why.{Why}
 use Rattle.am_journal.specs.Texts.{refused_text}
 use Rattle.core_outputs.specs.declared.reply.Reply.{Reply}
-use Rattle.acme_core.specs.Run.{step, run, enabled}
-use Rattle.core_parts.specs.States.{State, start}
+use Rattle.acme_core.specs.Run.{step, run}
+use Rattle.core_parts.specs.States.{State, start_of}
 use Rattle.am_replay.specs.declared.replaying.End.{End}
 use Rattle.am_replay.specs.declared.replaying.End.TheVariants as ends
 use Rattle.am_replay.specs.declared.script.Stop.{Stop}
 use Rattle.am_replay.specs.declared.script.Stop.TheVariants as stop
 use Rattle.am_serve.specs.Faults.{fault_word}
 use Rattle.am_replay.specs.Playing.{Put, Stops, EndText, Finishes, end_at}
-use Rattle.am_replay.specs.Scripts.{Script, ended, refused_at, play, script_of, end_of}
+use Rattle.am_replay.specs.Scripts.{Script, ended, none_read, refused_at, script_behind, script_in, script_of, end_of}
 use Rattle.am_replay.specs.Traces.{event_line, reply_words, replies_words, entry_words, traced_from, traced, trace_of}
-use Rattle.am_replay.specs.Traces.{HasWords, AllHaveWords, Shown, Traces, TraceSays}
+use Rattle.am_replay.specs.Traces.{HasWords, AllHaveWords, AreAllWorded, Shown, Traces, TraceSays}
 use Rattle.am_replay.specs.Written.{Wrote, IsFront}
-use Rattle.am_replay.proofs.Fronts.{front_whole}
+use Rattle.core_laws.specs.Fronts as fronts
+use Rattle.core_laws.specs.Fronts.{followed}
+use Rattle.am_replay.proofs.Fronts.{front_whole, play_front}
 use Rattle.am_replay.proofs.OwnText.{front_more, put_front}
 use Rattle.am_replay.proofs.Ran.{whole_or_cut, short_script, long_script, long_bytes, some_bytes}
 use Rattle.am_replay.proofs.Wrote.{wrote_on, wrote_none}
@@ -85,11 +90,9 @@ text_more old front line now rs k r h o n e =
 
 -- ---- the last event
 
-some_after : (before journal : List Event) (e : Event) → journal ≡ before ++ e ∷ [] → 0 < length journal
-some_after before journal e is = omega (arith, ap length is, length-append before (e ∷ []))
-
-pub has_last : (before journal : List Event) → (e : Event) × (journal ≡ before ++ e ∷ []) → 0 < length journal
-has_last before journal did = some_after before journal did.0 did.1
+pub has_last : (before journal : Journal) → (e : Event) × (journal ≡ longer before e) → 0 < length journal.events
+has_last before journal did =
+    omega (arith, ap (λ (x : Journal). length x.events) did.1, length-append before.events (did.0 ∷ []))
 
 last_is : (before : List Event) (e d : Event) (n : ℕ) → n ≡ length before → get_or (before ++ e ∷ []) n d ≡ e
 last_is [] e d n is = rw is refl
@@ -97,18 +100,19 @@ last_is (b ∷ before) e d zero is = absurd (omega (arith, is))
 last_is (b ∷ before) e d (suc n) is = last_is before e d n (omega (arith, is))
 
 -- the member at the end is the last event
-pub last_event : (before journal : List Event) (e d : Event) (n : ℕ) → journal ≡ before ++ e ∷ []
-    → n + 1 ≡ length journal → get_or journal n d ≡ e
+pub last_event : (before journal : Journal) (e d : Event) (n : ℕ) → journal ≡ longer before e
+    → n + 1 ≡ length journal.events → get_or journal.events n d ≡ e
 last_event before journal e d n is end =
-    ap (λ (l : List Event). get_or l n d) is ∙ last_is before e d n
-    (omega (arith, end, ap length is, length-append before (e ∷ [])))
+    ap (λ (x : Journal). get_or x.events n d) is ∙ last_is before.events e d n
+    (omega (arith, end, ap (λ (x : Journal). length x.events) is, length-append before.events (e ∷ [])))
 
-pub played_lawful : (before events : List Event) (n : ℕ) (d : Event) → ArePlayed enabled before events
-    → n < length events → IsLawful (get_or events n d)
+pub played_lawful : (allows : List Event → Event → Option Why) (before events : List Event) (n : ℕ) (d : Event)
+    → ArePlayed allows before events → n < length events → IsLawful (get_or events n d)
 unfolding ArePlayed
-played_lawful before [] n d p h = absurd (omega arith)
-played_lawful before (e ∷ events) zero d p h = p.0
-played_lawful before (e ∷ events) (suc n) d p h = played_lawful (before ++ e ∷ []) events n d p.2 (omega (arith, h))
+played_lawful allows before [] n d p h = absurd (omega arith)
+played_lawful allows before (e ∷ events) zero d p h = p.0
+played_lawful allows before (e ∷ events) (suc n) d p h = played_lawful allows (before ++ e ∷ []) events n d p.2
+    (omega (arith, h))
 
 -- ---- one entry more
 
@@ -119,13 +123,24 @@ traced-append s [] b = refl
 traced-append s (e ∷ a) b = ap (λ (x : List ℕ). entry_words s e ++ x) (traced-append (step s e) a b)
     ∙ sym (append_assoc (entry_words s e) (traced_from (step s e) a) (traced_from (fold step (step s e) a) b))
 
-traced-push : (events : List Event) (e : Event) → traced (events ++ e ∷ []) ≡ traced events
-    ++ (event_line e ++ replies_words (run (events ++ e ∷ [])).replies)
+traced-more : (journal : Journal) (more : List Event)
+    → traced (followed journal more) ≡ traced journal
+    ++ traced_from (fold step (start_of journal.format) journal.events) more
+traced-more journal more =
+    let start = start_of journal.format in
+    ap (λ (x : List ℕ). heading_text journal.format ++ x) (traced-append start journal.events more)
+    ∙ sym (append_assoc (heading_text journal.format) (traced_from start journal.events)
+    (traced_from (fold step start journal.events) more))
+
+traced-push : (journal : Journal) (e : Event) → traced (longer journal e) ≡ traced journal
+    ++ (event_line e ++ replies_words (run (longer journal e)).replies)
 unfolding traced_from run
-traced-push events e =
-    traced-append start events (e ∷ [])
-    ∙ ap (λ (x : List ℕ). traced_from start events ++ x) (append-nil (entry_words (fold step start events) e)
-    ∙ ap (λ (s : State). event_line e ++ replies_words s.replies) (sym (fold-append step start events (e ∷ []))))
+traced-push journal e =
+    let start = start_of journal.format in
+    traced-more journal (e ∷ [])
+    ∙ ap (λ (x : List ℕ). traced journal ++ x) (append-nil (entry_words (fold step start journal.events) e)
+    ∙ ap (λ (s : State). event_line e ++ replies_words s.replies)
+    (sym (fold-append step start journal.events (e ∷ []))))
 
 words-append : (s : State) (a b : List Event) → AllHaveWords s a → AllHaveWords (fold step s a) b
     → AllHaveWords s (a ++ b)
@@ -133,30 +148,31 @@ unfolding AllHaveWords
 words-append s [] b h k = k
 words-append s (e ∷ a) b h k = (h.0, words-append (step s e) a b h.1 k)
 
-words-push : (events : List Event) (e : Event) → AllHaveWords start events
-    → AllByRecursion HasWords (run (events ++ e ∷ [])).replies → AllHaveWords start (events ++ e ∷ [])
+words-push : (journal : Journal) (e : Event) → AreAllWorded journal
+    → AllByRecursion HasWords (run (longer journal e)).replies → AreAllWorded (longer journal e)
 unfolding AllHaveWords run
-words-push events e h k =
-    words-append start events (e ∷ []) h (
+words-push journal e h k =
+    let start = start_of journal.format in
+    words-append start journal.events (e ∷ []) h (
       subst (λ (s : State). AllByRecursion HasWords s.replies)
-          (fold-append step start events (e ∷ [])) k,
+          (fold-append step start journal.events (e ∷ [])) k,
       tt,
     )
 
 -- the replies of the last event have words
-pub words_entry : (before now : List Event) → (e : Event) × (now ≡ before ++ e ∷ []) → AllHaveWords start before
-    → AllByRecursion HasWords (run now).replies → AllHaveWords start now
+pub words_entry : (before now : Journal) → (e : Event) × (now ≡ longer before e) → AreAllWorded before
+    → AllByRecursion HasWords (run now).replies → AreAllWorded now
 words_entry before now did h k =
-    subst (AllHaveWords start) (sym did.1) (words-push before did.0 h
-    (subst (λ (x : List Event). AllByRecursion HasWords (run x).replies) did.1 k))
+    subst AreAllWorded (sym did.1) (words-push before did.0 h
+    (subst (λ (x : Journal). AllByRecursion HasWords (run x).replies) did.1 k))
 
-pub words_start : (events : List Event) → events ≡ [] → AllHaveWords start events
+pub words_start : (format : Format) (journal : Journal) → journal ≡ journal_in format [] → AreAllWorded journal
 unfolding AllHaveWords
-words_start events e = subst (AllHaveWords start) (sym e) tt
+words_start format journal e = subst AreAllWorded (sym e) tt
 
 -- the lines of one entry were put behind those of the entries before
-pub wrote_entry : (failed failed' : Bool) (first mid last : BytesTold) (before now : List Event) (text : List ℕ)
-    → (e : Event) × (now ≡ before ++ e ∷ []) → ((before : List Event) (e : Event) → now ≡ before ++ e ∷ []
+pub wrote_entry : (failed failed' : Bool) (first mid last : BytesTold) (before now : Journal) (text : List ℕ)
+    → (e : Event) × (now ≡ longer before e) → ((before : Journal) (e : Event) → now ≡ longer before e
     → text ≡ event_line e ++ replies_words (run now).replies)
     → Wrote failed (seen first mid) (traced before)
     → Put failed failed' (seen mid last) text
@@ -165,48 +181,52 @@ wrote_entry failed failed' first mid last before now text did is w put =
     let o : Seen = seen first last in
     let both : Wrote failed' o (traced before ++ text) = wrote_on failed failed' first mid last (traced before) text w
     put in
-    let one : event_line did.0 ++ replies_words (run (before ++ did.0 ∷ [])).replies ≡ text =
-    ap (λ (x : List Event). event_line did.0 ++ replies_words (run x).replies) (sym did.1) ∙ sym (is before did.0 did.1)
+    let one : event_line did.0 ++ replies_words (run (longer before did.0)).replies ≡ text =
+    ap (λ (x : Journal). event_line did.0 ++ replies_words (run x).replies) (sym did.1) ∙ sym (is before did.0 did.1)
     in
     let all : traced now ≡ traced before ++ text = ap traced did.1 ∙ traced-push before did.0
     ∙ ap (λ (x : List ℕ). traced before ++ x) one in
     subst (λ (x : List ℕ). Wrote failed' o x) (sym all) both
 
-pub traced_start : (first : BytesTold) (events : List Event) → events ≡ []
-    → Wrote false (seen first first) (traced events)
+-- the heading was put
+pub traced_start : (failed : Bool) (first last : BytesTold) (format : Format) (journal : Journal)
+    → journal ≡ journal_in format [] → Wrote failed (seen first last) (heading_text format)
+    → Wrote failed (seen first last) (traced journal)
 unfolding traced_from
-traced_start first events e = subst (λ (x : List Event). Wrote false (seen first first) (traced x)) (sym e)
-    (wrote_none first)
+traced_start failed first last format journal e w =
+    subst (λ (x : List ℕ). Wrote failed (seen first last) x)
+    (sym (append-nil (heading_text format)) ∙ ap traced (sym e)) w
 
-front_traced : (a b : List Event) → IsFront a b → (rest : List ℕ) × (traced a ++ rest ≡ traced b)
-front_traced a b f = (traced_from (fold step start a) f.0, sym (traced-append start a f.0) ∙ ap traced f.1)
+front_traced : (a b : Journal) → fronts.IsFront a b → IsFront (traced a) (traced b)
+front_traced a b f =
+    (traced_from (fold step (start_of a.format) a.events) f.0, sym (traced-more a f.0) ∙ ap traced f.1)
 
 -- what was put where the lines of the last entry were not
-pub short_of : (before now : List Event) (failed : Bool) (o : Seen) → (e : Event) × (now ≡ before ++ e ∷ [])
+pub short_of : (before now : Journal) (failed : Bool) (o : Seen) → (e : Event) × (now ≡ longer before e)
     → Wrote failed o (traced before) → Shown stop.NoMemory failed o now
 short_of before now failed o did w =
-    let f : IsFront before now = (did.0 ∷ [], sym did.1) in
+    let f : fronts.IsFront before now = (did.0 ∷ [], sym did.1) in
     (traced before, front_traced before now f, w)
 
-all_of_them : (journal : List Event) (failed : Bool) (o : Seen) → Wrote failed o (traced journal)
+all_of_them : (journal : Journal) (failed : Bool) (o : Seen) → Wrote failed o (traced journal)
     → Shown stop.NoMemory failed o journal
 all_of_them journal failed o w = (traced journal, ([], append-nil (traced journal)), w)
 
 -- memory ran out before the next event
-pub none_done : (before now : List Event) (failed : Bool) (o : Seen) → now ≡ before → Wrote failed o (traced before)
+pub none_done : (before now : Journal) (failed : Bool) (o : Seen) → now ≡ before → Wrote failed o (traced before)
     → Shown stop.NoMemory failed o now
-none_done before now failed o same w = subst (λ (x : List Event). Shown stop.NoMemory failed o x) (sym same)
+none_done before now failed o same w = subst (λ (x : Journal). Shown stop.NoMemory failed o x) (sym same)
     (all_of_them before failed o w)
 
 -- ---- the whole
 
-at_report : (failed : Bool) (journal : List Event) (o : Seen) → Wrote failed o (trace_of (ended journal))
-    → AllHaveWords start journal → Traces (end_at stop.Report failed) (ended journal) o journal
+at_report : (failed : Bool) (journal : Journal) (o : Seen) → Wrote failed o (trace_of (ended journal))
+    → AreAllWorded journal → Traces (end_at stop.Report failed) (ended journal) o journal
 at_report false journal o w words = (refl, refl, w.holds, words)
 at_report true journal o w words = (refl, refl, w.holds)
 
 -- the text of the end was put behind the entries
-pub traces_ok : (s : Stop) (failed failed' : Bool) (script : Script) (journal : List Event) (first mid last : BytesTold)
+pub traces_ok : (s : Stop) (failed failed' : Bool) (script : Script) (journal : Journal) (first mid last : BytesTold)
     (text : List ℕ)
     → Stops s script journal → Shown s failed (seen first mid) journal → EndText s journal text
     → Put failed failed' (seen mid last) text
@@ -230,37 +250,39 @@ traces_ok (stop.Refused line fault) failed failed' script journal first mid last
 traces_ok stop.NoMemory failed failed' script journal first mid last text stops shown e put = absurd e
 
 -- a front of the text, where a front of the events was done
-traces_out : (failed : Bool) (script : Script) (journal : List Event) (o : Seen) (text : List ℕ)
-    → IsFront journal script.events → IsFront text (traced journal) → Wrote failed o text
+traces_out : (failed : Bool) (script : Script) (journal : Journal) (o : Seen) (text : List ℕ)
+    → fronts.IsFront journal script.journal → IsFront text (traced journal) → Wrote failed o text
     → Traces ends.NoMemory script o journal
 traces_out failed script journal o text front part w =
-    let r = front_traced journal script.events front in
-    let end : List ℕ = end_of script.events script.refused in
+    let r = front_traced journal script.journal front in
+    let end : List ℕ = end_of script.journal script.refused in
     let whole : IsFront text (trace_of script) = (
       part.0 ++ (r.0 ++ end),
       sym (append_assoc text part.0 (r.0 ++ end)) ∙ ap (λ (x : List ℕ). x ++ (r.0 ++ end)) part.1
           ∙ sym (append_assoc (traced journal) r.0 end) ∙ ap (λ (x : List ℕ). x ++ end) r.1,
     )
     in (
-      front,
+      inr front,
       front_more o.before.bytes o.now.bytes text (trace_of script) whole
           (put_front o text (whole_or_cut failed o text w)),
     )
 
 -- memory ran out by then
-pub traces_err : (s : Stop) (failed : Bool) (script : Script) (journal : List Event) (o : Seen) → Stops s script journal
+pub traces_err : (s : Stop) (failed : Bool) (script : Script) (journal : Journal) (o : Seen) → Stops s script journal
     → Shown s failed o journal → Traces ends.NoMemory script o journal
 traces_err stop.Report failed script journal o stops shown =
-    traces_out failed script journal o (traced journal) (subst (λ (x : Script). IsFront journal x.events) (sym stops)
-    (front_whole journal)) ([], append-nil (traced journal)) shown.0
+    traces_out failed script journal o (traced journal)
+    (subst (λ (x : Script). fronts.IsFront journal x.journal) (sym stops) (front_whole journal))
+    ([], append-nil (traced journal)) shown.0
 traces_err (stop.Refused line fault) failed script journal o stops shown =
-    traces_out failed script journal o (traced journal) (subst (λ (x : Script). IsFront journal x.events) (sym stops)
-    (front_whole journal)) ([], append-nil (traced journal)) shown
+    traces_out failed script journal o (traced journal)
+    (subst (λ (x : Script). fronts.IsFront journal x.journal) (sym stops) (front_whole journal))
+    ([], append-nil (traced journal)) shown
 traces_err stop.NoMemory failed script journal o stops (text, part, w) = traces_out failed script journal o text stops
     part w
 
 -- by what stands at the end
-pub traces_end : (s : Stop) (failed : Bool) (script : Script) (journal : List Event) (first mid last : BytesTold)
+pub traces_end : (s : Stop) (failed : Bool) (script : Script) (journal : Journal) (first mid last : BytesTold)
     (end : End)
     → Stops s script journal → Shown s failed (seen first mid) journal → Finishes s failed (seen mid last) journal end
     → Traces end script (seen first last) journal
@@ -272,13 +294,24 @@ traces_end s failed script journal first mid last end stops shown (inr (none, sa
     (subst (λ (b : BytesTold). Traces ends.NoMemory script (seen first b) journal) (sym same)
     (traces_err s failed script journal (seen first mid) stops shown))
 
--- memory ran out before the first line
-pub traces_none : (script : Script) (first : BytesTold) → Traces ends.NoMemory script (seen first first) []
-traces_none script first = traces_out false script [] _ [] (script.events, refl) (traced [], refl) (wrote_none first)
+-- memory ran out before the first line behind the heading
+pub traces_none : (format : Format) (lines : List (List ℕ)) (first : BytesTold)
+    → Traces ends.NoMemory (script_behind format lines) (seen first first) (journal_in format [])
+traces_none format lines first =
+    traces_out false _ _ _ [] (play_front lines (journal_in format []) (first_line format))
+    (traced (journal_in format []), refl) (wrote_none first)
+
+-- memory ran out before a line was read
+pub traces_unread : (script : Script) (first : BytesTold) → Traces ends.NoMemory script (seen first first) none_read
+traces_unread script first = (
+  inl refl,
+  front_more first.bytes first.bytes [] (trace_of script) (trace_of script, refl)
+      (put_front (seen first first) [] (whole_or_cut false (seen first first) [] (wrote_none first))),
+)
 
 -- the whole input is refused
 pub traces_refused : (failed : Bool) (o : Seen) (text : List ℕ) → text ≡ refused_text 0 (codes "input")
-    → Put false failed o text → Traces ends.Script (refused_at [] 0 (codes "input")) o []
+    → Put false failed o text → Traces ends.Script (refused_at none_read 0 (codes "input")) o none_read
 unfolding traced_from
 traces_refused failed o text e put = (
   refl,
@@ -287,7 +320,7 @@ traces_refused failed o text e put = (
 )
 
 -- a script that was traced is that of some bytes
-trace_says : (end : End) (script : Script) (bytes : List ℕ) (before now : BytesTold) (o : Seen) (journal : List Event)
+trace_says : (end : End) (script : Script) (bytes : List ℕ) (before now : BytesTold) (o : Seen) (journal : Journal)
     → script ≡ script_of bytes → AreTold before.bytes bytes → Traces end script o journal
     → TraceSays end before now o journal
 trace_says ends.Done script bytes before now o journal e t r = (
@@ -307,19 +340,20 @@ trace_says ends.WriteFault script bytes before now o journal e t r =
 trace_says ends.NoMemory script bytes before now o journal e t r =
     (bytes, t, subst (λ (x : Script). Traces ends.NoMemory x o journal) e r)
 
-pub says_short : (end : End) (bytes : List ℕ) (before now : BytesTold) (o : Seen) (journal : List Event)
-    → length bytes ≤ input_limit → AreTold before.bytes bytes → Traces end (play [] 1 (lines_of bytes)) o journal
+pub says_short : (end : End) (bytes : List ℕ) (before now : BytesTold) (o : Seen) (journal : Journal)
+    → length bytes ≤ input_limit → AreTold before.bytes bytes → Traces end (script_in (lines_of bytes)) o journal
     → TraceSays end before now o journal
-says_short end bytes before now o journal h t r = trace_says end (play [] 1 (lines_of bytes)) bytes before now o journal
+says_short end bytes before now o journal h t r = trace_says end (script_in (lines_of bytes)) bytes before now o journal
     (short_script bytes h) t r
 
-pub says_long : (end : End) (before now : BytesTold) (o : Seen) (journal : List Event)
-    → IfSome before.bytes (λ bytes. input_limit < length bytes) → Traces end (refused_at [] 0 (codes "input")) o journal
+pub says_long : (end : End) (before now : BytesTold) (o : Seen) (journal : Journal)
+    → IfSome before.bytes (λ bytes. input_limit < length bytes)
+    → Traces end (refused_at none_read 0 (codes "input")) o journal
     → TraceSays end before now o journal
 says_long end before now o journal h r =
     let b = long_bytes before.bytes h in
-    trace_says end (refused_at [] 0 (codes "input")) b.0 before now o journal (long_script b.0 b.1) b.2 r
+    trace_says end (refused_at none_read 0 (codes "input")) b.0 before now o journal (long_script b.0 b.1) b.2 r
 
 -- memory ran out before all was read
-pub says_none : (before now first : BytesTold) → TraceSays ends.NoMemory before now (seen first first) []
-says_none before now first = let b = some_bytes before.bytes in (b.0, b.1, traces_none (script_of b.0) first)
+pub says_none : (before now first : BytesTold) → TraceSays ends.NoMemory before now (seen first first) none_read
+says_none before now first = let b = some_bytes before.bytes in (b.0, b.1, traces_unread (script_of b.0) first)

@@ -3,7 +3,7 @@ use Rattle.std.proofs.Common.{◌≡◌, inl, inr, ℕ, ◌+◌, ◌≤◌, Bool
 use Rattle.std.proofs.Common.{zero, Option, Some, None, refl, sym, ap, subst, ◌∙◌, append_assoc, arith}
 use Rattle.std.proofs.lemmas.List.{append-nil, length-append}
 use Rattle.am_base.specs.Outside.{BytesTold, told_then, HasRisen}
-use Rattle.am_base.specs.Seen.{Seen, seen}
+use Rattle.am_base.specs.Seen.{seen}
 use Rattle.am_replay.specs.Written.{Wrote}
 use Rattle.am_replay.specs.Playing.{Put}
 

@@ -4,14 +4,17 @@ use Rattle.std.specs.List.{flat_map}
 use Rattle.am_text.specs.Lines.{lines_of}
 use Rattle.am_base.specs.Stops.{input_limit}
 use Rattle.am_journal.specs.declared.event.Event.{Event}
+use Rattle.am_journal.specs.declared.event.Format.{Format}
+use Rattle.am_journal.specs.declared.event.Format.TheVariants.{One}
+use Rattle.am_journal.specs.declared.event.Journal.{Journal}
 use Rattle.am_journal.specs.declared.event.Why.{Why}
-use Rattle.am_journal.specs.Journal.{is_report}
+use Rattle.am_journal.specs.Journal.{journal_in, longer, format_of, behind_heading, first_line, is_report}
 use Rattle.am_journal.specs.Line.{event_of}
 use Rattle.am_journal.specs.Report.{report_text}
 use Rattle.am_journal.specs.Texts.{reply_text, refused_text, word_of}
 use Rattle.core_outputs.specs.declared.reply.Reply.{Reply}
 use Rattle.acme_core.specs.Run.{step, enabled}
-use Rattle.core_parts.specs.States.{State, start}
+use Rattle.core_parts.specs.States.{State, start_of}
 use Rattle.acme_core.specs.Views.{view_of}
 
 -- the line that is refused, by its number from 1, and the word for the reason; the number of the input as a whole is 0
@@ -19,36 +22,48 @@ pub record Refusal : Type 0 where
   pub line : ℕ
   pub word : List ℕ
 
--- the events that are done, in order, and the line that is refused, if one is
+-- the journal of what is done, and the line that is refused, if one is
 pub record Script : Type 0 where
-  pub events : List Event
+  pub journal : Journal
   pub refused : Option Refusal
 
-abbrev pub ended : List Event → Script
-ended events = record { events = events; refused = None }
+abbrev pub ended : Journal → Script
+ended journal = record { journal = journal; refused = None }
 
-abbrev pub refused_at : List Event → ℕ → List ℕ → Script
-refused_at events line word = record { events = events; refused = Some (record { line = line; word = word }) }
+abbrev pub refused_at : Journal → ℕ → List ℕ → Script
+refused_at journal line word = record { journal = journal; refused = Some (record { line = line; word = word }) }
 
 -- an event is done where it is enabled, and the script goes on behind it
-abbrev pub play_event : List Event → ℕ → Event → Option Why → (List Event → Script) → Script
-play_event events k e (Some why) go = refused_at events k (word_of why)
-play_event events k e None go = go (events ++ e ∷ [])
+abbrev pub play_event : Journal → ℕ → Event → Option Why → (Journal → Script) → Script
+play_event journal k e (Some why) go = refused_at journal k (word_of why)
+play_event journal k e None go = go (longer journal e)
 
-abbrev pub play_line : List Event → ℕ → Option Event → (List Event → Script) → Script
-play_line events k None go = refused_at events k (codes "line")
-play_line events k (Some e) go = play_event events k e (enabled events e) go
+abbrev pub play_line : Journal → ℕ → Option Event → (Journal → Script) → Script
+play_line journal k None go = refused_at journal k (codes "line")
+play_line journal k (Some e) go = play_event journal k e (enabled journal e) go
 
--- the lines from number k on, where these events were done before; a line `report` ends the script
-unfoldable pub play : List Event → ℕ → List (List ℕ) → Script
-play events k [] = ended events
-play events k (l ∷ ls) =
-    if is_report l then ended events else play_line events k (event_of l) (λ next. play next (k + 1) ls)
+-- the lines from number k on, where this journal was done before; a line `report` ends the script
+unfoldable pub play : Journal → ℕ → List (List ℕ) → Script
+play journal k [] = ended journal
+play journal k (l ∷ ls) =
+    if is_report l then ended journal else play_line journal k (event_of l) (λ next. play next (k + 1) ls)
+
+-- the lines behind the heading of a transcript of this format
+abbrev pub script_behind : Format → List (List ℕ) → Script
+script_behind format lines = play (journal_in format []) (first_line format) lines
+
+-- all lines of a transcript
+abbrev pub script_in : List (List ℕ) → Script
+script_in lines = script_behind (format_of lines) (behind_heading lines)
+
+-- the empty journal where no line is read
+abbrev pub none_read : Journal
+none_read = journal_in One []
 
 -- the script of a transcript; one that is too long is refused whole
 unfoldable pub script_of : List ℕ → Script
 script_of bytes =
-    if nat_lt input_limit (length bytes) then refused_at [] 0 (codes "input") else play [] 1 (lines_of bytes)
+    if nat_lt input_limit (length bytes) then refused_at none_read 0 (codes "input") else script_in (lines_of bytes)
 
 -- a line for each reply
 abbrev pub reply_line : Reply → List ℕ
@@ -62,14 +77,14 @@ unfoldable pub replied_from : State → List Event → List ℕ
 replied_from s [] = []
 replied_from s (e ∷ es) = reply_lines (step s e).replies ++ replied_from (step s e) es
 
-abbrev pub replied : List Event → List ℕ
-replied events = replied_from start events
+abbrev pub replied : Journal → List ℕ
+replied journal = replied_from (start_of journal.format) journal.events
 
 -- the report, or the line `refused`
-abbrev pub end_of : List Event → Option Refusal → List ℕ
-end_of events None = report_text (view_of events)
-end_of events (Some refusal) = refused_text refusal.line refusal.word
+abbrev pub end_of : Journal → Option Refusal → List ℕ
+end_of journal None = report_text (view_of journal)
+end_of journal (Some refusal) = refused_text refusal.line refusal.word
 
 -- the whole text of a replay
 abbrev pub text_of : Script → List ℕ
-text_of script = replied script.events ++ end_of script.events script.refused
+text_of script = replied script.journal ++ end_of script.journal script.refused

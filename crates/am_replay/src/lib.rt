@@ -12,5 +12,5 @@ pub use am_journal::Journal;
 pub use packing::{Fault, Packing, Refusal};
 pub use program::{PACK_LIMIT, PackEnd, Packed, pack};
 pub use replaying::{End, Ended, replay};
-pub use script::{Did, Played, Stop};
+pub use script::{Did, Played, Stop, empty_journal};
 pub use tracing::trace;

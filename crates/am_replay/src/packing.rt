@@ -1,13 +1,16 @@
 //! The events that a text in words spells, and their lines.
 
-ghost use Rattle.std.specs.Prelude.{◌≡◌, ◌++◌, ◌<◌, [], false, true, length, IfOk, OnOk};
+ghost use Rattle.std.specs.Prelude.{◌≡◌, ◌++◌, ◌<◌, false, true, length, IfOk, OnOk};
 ghost use Rattle.std.specs.List.{AllByRecursion};
 ghost use Rattle.am_text.specs.Lines.{lines_of};
-ghost use Rattle.am_journal.specs.Journal.{is_report, journal_text};
+ghost use Rattle.am_journal.specs.Journal.{is_report, events_text};
 ghost use Rattle.am_journal.specs.Lawful.{IsLawful, IsInRange};
-ghost use Rattle.am_replay.specs.Packing.{all_of, refused_at, fault_word, pack, refusal_text, packed_text, DidLine};
+ghost use Rattle.am_replay.specs.Packing.{all_of, refused_at, fault_word, packing_in, refusal_text, packed_text};
+ghost use Rattle.am_replay.specs.Packing.{DidLine};
 
-use am_journal::{Journal, refused_line, write_line};
+use crate::script::empty_journal;
+use am_journal::{Journal, heading, refused_line, split_heading, write_line};
+use am_serve::first_line;
 use am_text::{Bytes, Items, NoMemory, split_line};
 use ninep_trace::{Event, Line, read_words};
 use std::alloc::Global;
@@ -53,18 +56,18 @@ fn is_report(line: &[u8]) -> bool
 }
 
 fn put_line(alloc: Global, journal: &mut Journal, line: &[u8]) -> Result<Did, NoMemory>
-    requires lawful { AllByRecursion IsLawful journal.old }
-    requires in_range { AllByRecursion IsInRange journal.old }
+    requires lawful { AllByRecursion IsLawful journal.old.events }
+    requires in_range { AllByRecursion IsInRange journal.old.events }
     ensures did { IfOk result (λ did. DidLine did journal.old line.now journal.new) }
-    ensures lawful { IfOk result (λ did. AllByRecursion IsLawful journal.new) }
-    ensures in_range { IfOk result (λ did. AllByRecursion IsInRange journal.new) }
+    ensures lawful { IfOk result (λ did. AllByRecursion IsLawful journal.new.events) }
+    ensures in_range { IfOk result (λ did. AllByRecursion IsInRange journal.new.events) }
 {
     if is_report(line) {
         return Ok(Did::Report);
     }
     match read_words(alloc, line)? {
         Some(Line::Event(event)) => {
-            journal.push(event)?;
+            journal.events.push(event)?;
             Ok(Did::Read)
         }
         Some(Line::Reply(_, _)) => Ok(Did::Read),
@@ -92,13 +95,13 @@ pub(crate) fn refused_at(journal: Journal, line: u64, fault: Fault) -> Packing
 
 /// What the lines of a text spell.
 pub(crate) fn read_lines(alloc: Global, input: &[u8]) -> Result<Packing, NoMemory>
-    ensures exact { IfOk result (λ packing. packing ≡ pack [] 1 (lines_of input.now)) }
-    ensures lawful { IfOk result (λ packing. AllByRecursion IsLawful packing.journal) }
-    ensures in_range { IfOk result (λ packing. AllByRecursion IsInRange packing.journal) }
+    ensures exact { IfOk result (λ packing. packing ≡ packing_in (lines_of input.now)) }
+    ensures lawful { IfOk result (λ packing. AllByRecursion IsLawful packing.journal.events) }
+    ensures in_range { IfOk result (λ packing. AllByRecursion IsInRange packing.journal.events) }
 {
-    let mut journal = Items::new(alloc);
-    let mut rest = input;
-    let mut k: u64 = 1;
+    let (format, mut rest) = split_heading(input);
+    let mut journal = empty_journal(alloc, format);
+    let mut k = first_line(format);
     while !rest.is_empty() {
         let (line, after) = split_line(rest);
         match put_line(alloc, &mut journal, line)? {
@@ -113,11 +116,11 @@ pub(crate) fn read_lines(alloc: Global, input: &[u8]) -> Result<Packing, NoMemor
     Ok(at_end(journal))
 }
 
-fn put_journal(alloc: Global, text: &mut Bytes, journal: &[Event]) -> Result<(), NoMemory>
-    requires { AllByRecursion IsLawful journal.now }
-    ensures { OnOk result (text.new ≡ text.old ++ journal_text journal.now) }
+fn put_events(alloc: Global, text: &mut Bytes, events: &[Event]) -> Result<(), NoMemory>
+    requires { AllByRecursion IsLawful events.now }
+    ensures { OnOk result (text.new ≡ text.old ++ events_text events.now) }
 {
-    for event in journal {
+    for event in events {
         text.append(write_line(alloc, event)?.as_slice())?;
         text.append(b"\n")?;
     }
@@ -146,11 +149,11 @@ fn put_refusal(alloc: Global, text: &mut Bytes, refused: Option<Refusal>) -> Res
 
 /// The journal's lines, and a line `refused` where something is.
 pub(crate) fn packed_text(alloc: Global, packing: &Packing) -> Result<Bytes, NoMemory>
-    requires { AllByRecursion IsLawful packing.now.journal }
+    requires { AllByRecursion IsLawful packing.now.journal.events }
     ensures { IfOk result (λ text. text ≡ packed_text packing.now) }
 {
-    let mut text = Items::new(alloc);
-    put_journal(alloc, &mut text, packing.journal.as_slice())?;
+    let mut text = Items::copied(alloc, heading(packing.journal.format))?;
+    put_events(alloc, &mut text, packing.journal.events.as_slice())?;
     put_refusal(alloc, &mut text, packing.refused)?;
     Ok(text)
 }

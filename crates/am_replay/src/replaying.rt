@@ -2,20 +2,21 @@
 
 ghost use Rattle.std.specs.Prelude.{◌≡◌, [], None, codes, IfOk};
 ghost use Rattle.am_text.specs.Lines.{lines_of};
+ghost use Rattle.am_journal.specs.Journal.{journal_in};
 ghost use Rattle.am_base.specs.Seen.{seen};
 ghost use Rattle.acme_core.specs.Run.{settled};
 ghost use Rattle.core_laws.specs.Journals.{JournalLaws};
-ghost use Rattle.am_replay.specs.Scripts.{play, end_of, refused_at};
+ghost use Rattle.am_replay.specs.Scripts.{script_in, none_read, end_of, refused_at};
 ghost use Rattle.am_replay.specs.Ends.{Ran, Says};
 ghost use Rattle.am_replay.specs.Playing.{EndText, Finishes, end_at};
 ghost use Rattle.am_replay.specs.Traces.{Traces};
 
-use crate::script::{Played, Stop, play, put};
-use acme_core::{Core, Journal};
+use crate::script::{Played, Stop, empty_journal, play, put};
+use acme_core::Core;
 use am_base::{INPUT_LIMIT, ReadStop, Sink, Source, read_to_end};
-use am_journal::{refused_line, report};
+use am_journal::{Format, Journal, refused_line, report, split_heading};
 use am_serve::fault_word;
-use am_text::{Bytes, Items, NoMemory};
+use am_text::{Bytes, NoMemory};
 use core_laws::journals_are_lawful;
 use std::alloc::Global;
 
@@ -56,16 +57,16 @@ fn journal_of(core: Core) -> Journal
     core.into_journal()
 }
 
-pub(crate) fn no_events(alloc: Global, end: End) -> Ended
+pub(crate) fn no_events(alloc: Global, format: Format, end: End) -> Ended
     ensures end { result.end ≡ end }
-    ensures journal { result.journal ≡ [] }
+    ensures journal { result.journal ≡ journal_in format [] }
     ensures laws { JournalLaws result.journal }
 {
     // law: journals are lawful
     journals_are_lawful();
     Ended {
         end,
-        journal: Items::new(alloc),
+        journal: empty_journal(alloc, format),
     }
 }
 
@@ -127,10 +128,10 @@ pub(crate) fn finish<O: Sink>(alloc: Global, core: Core, played: Played, output:
 
 /// Refuses a transcript that is too long.
 pub(crate) fn refuse_input<O: Sink>(alloc: Global, output: &mut O) -> Ended
-    ensures ran { Ran result.end (refused_at [] 0 (codes "input"))
+    ensures ran { Ran result.end (refused_at none_read 0 (codes "input"))
         (seen (O.told output.old) (O.told output.new))
         result.journal }
-    ensures traces { Traces result.end (refused_at [] 0 (codes "input"))
+    ensures traces { Traces result.end (refused_at none_read 0 (codes "input"))
         (seen (O.told output.old) (O.told output.new))
         result.journal }
     ensures laws { JournalLaws result.journal }
@@ -138,23 +139,24 @@ pub(crate) fn refuse_input<O: Sink>(alloc: Global, output: &mut O) -> Ended
     match refused_line(alloc, 0, b"input") {
         Ok(text) => {
             let _failed = put(output, false, text.as_slice());
-            no_events(alloc, End::Script)
+            no_events(alloc, Format::One, End::Script)
         }
-        Err(NoMemory) => no_events(alloc, End::NoMemory),
+        Err(NoMemory) => no_events(alloc, Format::One, End::NoMemory),
     }
 }
 
 /// Replays a transcript of lawful length.
 fn replay_lines<O: Sink>(alloc: Global, bytes: &[u8], output: &mut O) -> Ended
-    ensures ran { Ran result.end (play [] 1 (lines_of bytes.now))
+    ensures ran { Ran result.end (script_in (lines_of bytes.now))
         (seen (O.told output.old) (O.told output.new))
         result.journal }
     ensures laws { JournalLaws result.journal }
 {
-    let Ok(mut core) = Core::new(alloc) else {
-        return no_events(alloc, End::NoMemory);
+    let (format, lines) = split_heading(bytes);
+    let Ok(mut core) = Core::new(alloc, format) else {
+        return no_events(alloc, format, End::NoMemory);
     };
-    let played = play(alloc, &mut core, output, bytes);
+    let played = play(alloc, &mut core, output, lines);
     finish(alloc, core, played, output)
 }
 
@@ -168,7 +170,7 @@ pub fn replay<I: Source, O: Sink>(alloc: Global, input: &mut I, output: &mut O) 
     match read_to_end(alloc, input, INPUT_LIMIT) {
         Ok(bytes) => replay_lines(alloc, bytes.as_slice(), output),
         Err(ReadStop::TooLong) => refuse_input(alloc, output),
-        Err(ReadStop::ReadFault) => no_events(alloc, End::ReadFault),
-        Err(ReadStop::NoMemory) => no_events(alloc, End::NoMemory),
+        Err(ReadStop::ReadFault) => no_events(alloc, Format::One, End::ReadFault),
+        Err(ReadStop::NoMemory) => no_events(alloc, Format::One, End::NoMemory),
     }
 }

@@ -3,15 +3,15 @@
 ghost use Rattle.std.specs.Prelude.{◌≡◌, [], IfOk};
 ghost use Rattle.am_text.specs.Lines.{lines_of};
 ghost use Rattle.am_base.specs.Seen.{seen};
-ghost use Rattle.am_journal.specs.Journal.{is_report};
+ghost use Rattle.am_journal.specs.Journal.{journal_in, is_report};
 ghost use Rattle.acme_core.specs.Run.{run, settled};
-ghost use Rattle.am_replay.specs.Scripts.{play, reply_lines, replied};
+ghost use Rattle.am_replay.specs.Scripts.{script_behind, reply_lines, replied};
 ghost use Rattle.am_replay.specs.Playing.{DidLine, Put, Stops, Shows};
 
 use acme_core::{Core, Refused};
 use am_base::{Sink, write_all};
-use am_journal::{read_line, reply_line};
-use am_serve::LineFault;
+use am_journal::{Format, Journal, read_line, reply_line};
+use am_serve::{LineFault, first_line};
 use am_text::{Bytes, Items, NoMemory, split_line};
 use std::alloc::Global;
 
@@ -44,6 +44,16 @@ pub enum Stop {
 pub struct Played {
     pub stop: Stop,
     pub failed: bool,
+}
+
+/// The empty journal of this format.
+pub fn empty_journal(alloc: Global, format: Format) -> Journal
+    ensures { result ≡ journal_in format [] }
+{
+    Journal {
+        format,
+        events: Items::new(alloc),
+    }
 }
 
 fn is_report(line: &[u8]) -> bool
@@ -100,18 +110,18 @@ pub(crate) fn put<O: Sink>(output: &mut O, failed: bool, text: &[u8]) -> bool
     }
 }
 
-/// Does the lines of a transcript from the empty editor on, and writes the replies after each event.
+/// Does the lines behind the heading of a transcript from the empty editor on, and writes the replies after each event.
 pub(crate) fn play<O: Sink>(alloc: Global, core: &mut Core, output: &mut O, input: &[u8]) -> Played
-    requires { core.old ≡ settled [] }
+    requires { core.old ≡ settled (journal_in core.old.journal.format []) }
     ensures settled { core.new ≡ settled core.new.journal }
-    ensures stops { Stops result.stop (play [] 1 (lines_of input.now)) core.new.journal }
+    ensures stops { Stops result.stop (script_behind core.old.journal.format (lines_of input.now)) core.new.journal }
     ensures shows { Shows result.stop result.failed
         (seen (O.told output.old) (O.told output.new))
         core.new.journal (replied core.new.journal) }
 {
     let mut failed = false;
     let mut rest = input;
-    let mut k: u64 = 1;
+    let mut k = first_line(core.format());
     while !rest.is_empty() {
         let (line, after) = split_line(rest);
         let stop = match do_line(alloc, core, k, line) {

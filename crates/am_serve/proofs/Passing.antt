@@ -1,14 +1,17 @@
 -- Lines of a script that are passed.
-use Rattle.std.proofs.Common.{◌≡◌, ◌⊎◌, inl, inr, ℕ, ◌+◌, ◌<◌, true, List, [], ◌∷◌, ◌++◌, length, refl, sym, ap, subst}
-use Rattle.std.proofs.Common.{◌∙◌, append_assoc, arith}
+use Rattle.std.proofs.Common.{◌≡◌, ◌⊎◌, inl, inr, ℕ, ◌+◌, ◌<◌, ◌≤◌, true, List, [], ◌∷◌, ◌++◌, length, refl, sym, ap}
+use Rattle.std.proofs.Common.{subst, ◌∙◌, append_assoc, arith}
 use Rattle.std.proofs.lemmas.List.{append-nil, map-append, length-append}
 use Rattle.am_text.specs.Lines.{lines_of}
 use Rattle.am_journal.specs.declared.event.Event.{Event}
+use Rattle.am_journal.specs.declared.event.Format.{Format}
+use Rattle.am_journal.specs.declared.event.Format.TheVariants.{One, Two}
+use Rattle.am_journal.specs.Journal.{first_line}
 use Rattle.am_counter.specs.Known.{Known, with_seen, with_entry, Looks, Submits}
 use Rattle.am_counter.specs.Played.{IsPrefix, has_hang}
 use Rattle.am_serve.specs.Gained.{Rule, Answers, Gains, gained, plain}
 use Rattle.am_serve.specs.Script.{Passes, PassesLine, Passed, RefusedAt, IsRefused, HaveEnded, asked_by, asked_by_lines}
-use Rattle.am_serve.specs.Script.{asked_by_script, asked_events, then_asked}
+use Rattle.am_serve.specs.Script.{asked_by_script, asked_events, first_asked, then_asked}
 use Rattle.am_serve.specs.declared.asked.Asked.{Asked}
 use Rattle.am_serve.specs.declared.asked.Asked.TheVariants.{Does, Awaits, Ends, Faulty}
 use Rattle.am_serve.specs.declared.fault.LineFault.{LineFault}
@@ -18,6 +21,15 @@ use Rattle.am_serve.specs.Sending.{Sends}
 use Rattle.am_serve.proofs.Gaining.{grown, gains_more, gains_look, gains_entry, gained_is, gains_gained}
 use Rattle.am_serve.proofs.HangUps.{has_hang_kept}
 use Rattle.std.proofs.lemmas.Bool.{cases_eq}
+
+-- what lines behind a heading ask
+abbrev pub lines_asked : List ℕ → List Asked
+lines_asked bytes = asked_by_lines (lines_of bytes)
+
+-- at most one line stands before the first that asks
+pub first_small : (format : Format) → first_line format ≤ 2
+first_small One = omega arith
+first_small Two = omega arith
 
 -- ---- looking
 
@@ -124,18 +136,20 @@ module _ (enabled : Rule) (answer : Answers) where
 
   -- ---- the lines so far, and those that are left
 
-  pub record PassedSoFar (v w : Known) (all rest : List Asked) (line : ℕ) : Type 0 where
+  pub record PassedSoFar (v w : Known) (script : List ℕ) (rest : List Asked) (line : ℕ) : Type 0 where
     pub before : List Asked
-    pub split : all ≡ before ++ rest
-    pub number : line ≡ length before + 1
+    pub split : asked_by_script script ≡ before ++ rest
+    pub number : line ≡ length before + first_asked script
     pub passes : Passes enabled answer v before w
 
-  pub none_so_far : (v : Known) (all : List Asked) → PassedSoFar v v all all 1
-  none_so_far v all = record { before = []; split = refl; number = omega arith; passes = passes_nothing v }
+  pub none_so_far : (v : Known) (script : List ℕ) (rest : List Asked) (line : ℕ) → asked_by_script script ≡ rest
+      → line ≡ first_asked script → PassedSoFar v v script rest line
+  none_so_far v script rest line e n =
+      record { before = []; split = e; number = omega (arith, n); passes = passes_nothing v }
 
   -- the first of the lines that are left, and what it asks
   next_asked : (rest after : List ℕ) (first : List ℕ) → lines_of rest ≡ first ∷ lines_of after
-      → asked_by_script rest ≡ then_asked (asked_by first) (asked_by_script after)
+      → lines_asked rest ≡ then_asked (asked_by first) (lines_asked after)
   unfolding asked_by_lines
   next_asked rest after first e = ap asked_by_lines e
 
@@ -144,60 +158,64 @@ module _ (enabled : Rule) (answer : Answers) where
   push all before others a e = e ∙ sym (append_assoc before (a ∷ []) others)
 
   -- one line more was passed
-  pub passes_next : (v u w : Known) (all : List Asked) (rest after first : List ℕ) (line : ℕ)
+  pub passes_next : (v u w : Known) (script : List ℕ) (rest after first : List ℕ) (line : ℕ)
       → lines_of rest ≡ first ∷ lines_of after
-      → PassedSoFar v u all (asked_by_script rest) line → PassesLine enabled answer u (asked_by first) w
-      → PassedSoFar v w all (asked_by_script after) (line + 1)
-  passes_next v u w all rest after first line e h p = by_cases (asked_by first)
+      → PassedSoFar v u script (lines_asked rest) line → PassesLine enabled answer u (asked_by first) w
+      → PassedSoFar v w script (lines_asked after) (line + 1)
+  passes_next v u w script rest after first line e h p = by_cases (asked_by first)
       (h.split ∙ ap (λ (l : List Asked). h.before ++ l) (next_asked rest after first e)) p
     where
-      more : (a : Asked) → all ≡ h.before ++ (a ∷ asked_by_script after) → PassesLine enabled answer u a w
-          → PassedSoFar v w all (asked_by_script after) (line + 1)
+      more : (a : Asked) → asked_by_script script ≡ h.before ++ (a ∷ lines_asked after)
+          → PassesLine enabled answer u a w → PassedSoFar v w script (lines_asked after) (line + 1)
       more a s p = record {
         before = h.before ++ a ∷ [];
-        split = push all h.before (asked_by_script after) a s;
+        split = push (asked_by_script script) h.before (lines_asked after) a s;
         number = omega (arith, h.number, length-append h.before (a ∷ []));
         passes = passes_more v u w h.before a h.passes p;
       }
 
-      by_cases : (a : Asked) → all ≡ h.before ++ then_asked a (asked_by_script after) → PassesLine enabled answer u a w
-          → PassedSoFar v w all (asked_by_script after) (line + 1)
+      by_cases : (a : Asked) → asked_by_script script ≡ h.before ++ then_asked a (lines_asked after)
+          → PassesLine enabled answer u a w → PassedSoFar v w script (lines_asked after) (line + 1)
       by_cases (Does x) s p = more (Does x) s p
       by_cases (Awaits x) s p = more (Awaits x) s p
       by_cases Ends s p = absurd p
       by_cases Faulty s p = absurd p
 
-  all_passed : (v w : Known) (all rest : List Asked) (line : ℕ) → PassedSoFar v w all rest line → rest ≡ []
-      → Passed enabled answer v all w
-  all_passed v w all rest line h e =
+  all_passed : (v w : Known) (script : List ℕ) (rest : List Asked) (line : ℕ) → PassedSoFar v w script rest line
+      → rest ≡ [] → Passed enabled answer v (asked_by_script script) w
+  all_passed v w script rest line h e =
       let P : List Asked → Type 0 = λ l. Passed enabled answer v l w in
-      let whole : h.before ≡ all = sym (append-nil h.before) ∙ sym (ap (λ (l : List Asked). h.before ++ l) e)
-      ∙ sym h.split in
+      let whole : h.before ≡ asked_by_script script = sym (append-nil h.before)
+      ∙ sym (ap (λ (l : List Asked). h.before ++ l) e) ∙ sym h.split in
       subst P whole (passed_is v w h.before h.passes)
 
-  pub so_far_gains : (v u w : Known) (all rest : List Asked) (line : ℕ) → PassedSoFar v u all rest line → Looks u w
-      → Gains v (gained v w) w
-  so_far_gains v u w all rest line h l = passed_gains v w h.before (passes_look v u w h.before h.passes l)
+  pub so_far_gains : (v u w : Known) (script : List ℕ) (rest : List Asked) (line : ℕ)
+      → PassedSoFar v u script rest line → Looks u w → Gains v (gained v w) w
+  so_far_gains v u w script rest line h l = passed_gains v w h.before (passes_look v u w h.before h.passes l)
 
   -- a line `report`
-  pub reported : (v w : Known) (all : List Asked) (rest after first : List ℕ) (line : ℕ)
+  pub reported : (v w : Known) (script : List ℕ) (rest after first : List ℕ) (line : ℕ)
       → lines_of rest ≡ first ∷ lines_of after
-      → PassedSoFar v w all (asked_by_script rest) line → asked_by first ≡ Ends → Passed enabled answer v all w
-  reported v w all rest after first line e h r =
-      all_passed v w all (asked_by_script rest) line h (next_asked rest after first e
-      ∙ ap (λ (a : Asked). then_asked a (asked_by_script after)) r)
+      → PassedSoFar v w script (lines_asked rest) line → asked_by first ≡ Ends
+      → Passed enabled answer v (asked_by_script script) w
+  reported v w script rest after first line e h r =
+      all_passed v w script (lines_asked rest) line h (next_asked rest after first e
+      ∙ ap (λ (a : Asked). then_asked a (lines_asked after)) r)
 
   -- the end
-  pub ended : (v w : Known) (all : List Asked) (rest : List ℕ) (line : ℕ)
-      → length rest ≡ 0 → PassedSoFar v w all (asked_by_script rest) line → Passed enabled answer v all w
+  pub ended : (v w : Known) (script : List ℕ) (rest : List ℕ) (line : ℕ)
+      → length rest ≡ 0 → PassedSoFar v w script (lines_asked rest) line
+      → Passed enabled answer v (asked_by_script script) w
   unfolding asked_by_lines
-  ended v w all [] line e h = all_passed v w all [] line h refl
-  ended v w all (b ∷ bs) line e h = absurd (omega (arith, e))
+  ended v w script [] line e h = all_passed v w script [] line h refl
+  ended v w script (b ∷ bs) line e h = absurd (omega (arith, e))
 
   -- no memory
-  pub out : (v u w : Known) (all rest : List Asked) (line : ℕ) → PassedSoFar v u all rest line → Looks u w
-      → (before : List Asked) × (after : List Asked) × (all ≡ before ++ after) × Passed enabled answer v before w
-  out v u w all rest line h l = (
+  pub out : (v u w : Known) (script : List ℕ) (rest : List Asked) (line : ℕ)
+      → PassedSoFar v u script rest line → Looks u w
+      → (before : List Asked) × (after : List Asked) × (asked_by_script script ≡ before ++ after)
+      × Passed enabled answer v before w
+  out v u w script rest line h l = (
     h.before,
     rest,
     h.split,
@@ -206,16 +224,16 @@ module _ (enabled : Rule) (answer : Answers) where
   )
 
   -- a line is refused
-  pub refused : (clients : ℕ) (v u w : Known) (all : List Asked) (rest after first : List ℕ) (line : ℕ)
+  pub refused : (clients : ℕ) (v u w : Known) (script : List ℕ) (rest after first : List ℕ) (line : ℕ)
       (why : LineFault) → lines_of rest ≡ first ∷ lines_of after
-      → PassedSoFar v u all (asked_by_script rest) line → Looks u w
+      → PassedSoFar v u script (lines_asked rest) line → Looks u w
       → IsRefused enabled answer clients w.seen (asked_by first) why
-      → RefusedAt enabled answer clients v all line why w
-  refused clients v u w all rest after first line why e h l r = by_cases (asked_by first) why
+      → RefusedAt enabled answer clients v script line why w
+  refused clients v u w script rest after first line why e h l r = by_cases (asked_by first) why
       (h.split ∙ ap (λ (t : List Asked). h.before ++ t) (next_asked rest after first e)) r
     where
-      at : (a : Asked) (others : List Asked) (why : LineFault) → all ≡ h.before ++ (a ∷ others)
-          → IsRefused enabled answer clients w.seen a why → RefusedAt enabled answer clients v all line why w
+      at : (a : Asked) (others : List Asked) (why : LineFault) → asked_by_script script ≡ h.before ++ (a ∷ others)
+          → IsRefused enabled answer clients w.seen a why → RefusedAt enabled answer clients v script line why w
       at a others why s r = record {
         before = h.before;
         refused = a;
@@ -232,10 +250,10 @@ module _ (enabled : Rule) (answer : Answers) where
       ends fault.Alone r = let e : Ends ≡ Awaits r.0 = r.1 in cc
       ends (fault.NotEnabled x) r = let e : Ends ≡ Does r.0 = r.1 in cc
 
-      by_cases : (a : Asked) (why : LineFault) → all ≡ h.before ++ then_asked a (asked_by_script after)
-          → IsRefused enabled answer clients w.seen a why → RefusedAt enabled answer clients v all line why w
-      by_cases (Does x) why s r = at (Does x) (asked_by_script after) why s r
-      by_cases (Awaits x) why s r = at (Awaits x) (asked_by_script after) why s r
+      by_cases : (a : Asked) (why : LineFault) → asked_by_script script ≡ h.before ++ then_asked a (lines_asked after)
+          → IsRefused enabled answer clients w.seen a why → RefusedAt enabled answer clients v script line why w
+      by_cases (Does x) why s r = at (Does x) (lines_asked after) why s r
+      by_cases (Awaits x) why s r = at (Awaits x) (lines_asked after) why s r
       by_cases Ends why s r = absurd (ends why r)
       by_cases Faulty why s r = at Faulty [] why s r
 

@@ -4,7 +4,7 @@ use Rattle.std.specs.Prelude.{if◌then◌else◌, codes}
 use Rattle.am_text.specs.Lines.{lines_of}
 use Rattle.am_journal.specs.declared.event.Event.{Event}
 use Rattle.am_journal.specs.declared.event.Event.TheVariants as event
-use Rattle.am_journal.specs.Journal.{is_report}
+use Rattle.am_journal.specs.Journal.{format_of, behind_heading, first_line, is_report}
 use Rattle.am_journal.specs.Lawful.{IsLawful, IsInRange}
 use Rattle.am_text.specs.Front.{after_front}
 use Rattle.am_journal.specs.Line.{event_of, window_at}
@@ -82,9 +82,13 @@ unfoldable pub asked_by_lines : List (List ℕ) → List Asked
 asked_by_lines [] = []
 asked_by_lines (line ∷ lines) = then_asked (asked_by line) (asked_by_lines lines)
 
--- what a script asks for
+-- what a script asks for, behind its heading where it has one
 abbrev pub asked_by_script : List ℕ → List Asked
-asked_by_script script = asked_by_lines (lines_of script)
+asked_by_script script = asked_by_lines (behind_heading (lines_of script))
+
+-- the number of the first of these lines: a heading counts as a line
+abbrev pub first_asked : List ℕ → ℕ
+first_asked script = first_line (format_of (lines_of script))
 
 -- the events that are asked for
 abbrev pub asked_events : List Asked → List Event
@@ -128,19 +132,20 @@ IsRefused enabled answer clients journal a (fault.NotEnabled why) = (e : Event) 
     × (enabled journal e ≡ Some why)
 
 -- the lines before a numbered one were passed, and that one is refused
-pub record RefusedAt (enabled : Rule) (answer : Answers) (clients : ℕ) (v : Known) (lines : List Asked) (line : ℕ)
+pub record RefusedAt (enabled : Rule) (answer : Answers) (clients : ℕ) (v : Known) (script : List ℕ) (line : ℕ)
     (why : LineFault) (w : Known) : Type 0 where
   pub before : List Asked
   pub refused : Asked
   pub after : List Asked
-  pub split : lines ≡ before ++ refused ∷ after
-  pub number : line ≡ length before + 1
+  pub split : asked_by_script script ≡ before ++ refused ∷ after
+  pub number : line ≡ length before + first_asked script
   pub passed : Passed enabled answer v before w
   pub cause : IsRefused enabled answer clients w.seen refused why
 
 -- how a script ended
-abbrev pub EndsScript : Rule → Answers → ℕ → Known → List Asked → ScriptEnd → Known → Type 0
-EndsScript enabled answer clients v lines end.Done w = Passed enabled answer v lines w
-EndsScript enabled answer clients v lines (end.Refused line why) w = RefusedAt enabled answer clients v lines line why w
-EndsScript enabled answer clients v lines end.NoMemory w = (before : List Asked) × (after : List Asked)
-    × (lines ≡ before ++ after) × Passed enabled answer v before w
+abbrev pub EndsScript : Rule → Answers → ℕ → Known → List ℕ → ScriptEnd → Known → Type 0
+EndsScript enabled answer clients v script end.Done w = Passed enabled answer v (asked_by_script script) w
+EndsScript enabled answer clients v script (end.Refused line why) w = RefusedAt enabled answer clients v script line why
+    w
+EndsScript enabled answer clients v script end.NoMemory w = (before : List Asked) × (after : List Asked)
+    × (asked_by_script script ≡ before ++ after) × Passed enabled answer v before w

@@ -20,6 +20,6 @@ pub use bells::Bells;
 pub use fault::{LineFault, fault_word};
 pub use laws::what_stands_next_decides;
 pub use reading::read_side;
-pub use scripting::{ScriptEnd, script_side};
+pub use scripting::{ScriptEnd, first_line, script_side};
 pub use station::{Script, Station};
 pub use writing::{WriteEnd, write_side};

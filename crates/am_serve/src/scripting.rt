@@ -1,19 +1,20 @@
 //! The side that does the lines of a script.
 
 ghost use Rattle.std.specs.Prelude.{◌≡◌, ◌<◌, ◌≤◌, Bool, true, false};
+ghost use Rattle.am_journal.specs.Journal.{first_line};
 ghost use Rattle.am_journal.specs.Lawful.{IsLawful, IsInRange};
 ghost use Rattle.am_counter.specs.declared.ask.Ask.TheVariants.{EventOpen};
 ghost use Rattle.am_counter.specs.Known.{Looks};
 ghost use Rattle.am_journal.specs.Limits.{connection_count};
 ghost use Rattle.am_serve.specs.Gained.{Gains, gained};
-ghost use Rattle.am_serve.specs.Script.{HaveEnded, EndsScript, asked_by_script, asked_by};
+ghost use Rattle.am_serve.specs.Script.{HaveEnded, EndsScript, asked_by};
 ghost use Rattle.am_serve.specs.Doing.{DoesLine, DoesEvent, GoesOn};
 
 use crate::asked::{Asked, asked_by};
 use crate::fault::LineFault;
 use crate::station::Script;
 use am_counter::{Ask, Counter, Told};
-use am_journal::{Event, Refused};
+use am_journal::{Event, Format, Refused, split_heading};
 use am_text::{NoMemory, split_line};
 use std::alloc::Global;
 use std::sync::Wait;
@@ -135,11 +136,21 @@ fn do_line<C: Counter, R: Wait>(
     }
 }
 
+/// The number of the first line behind the heading of a transcript of this format.
+pub fn first_line(format: Format) -> u64
+    ensures number { result ≡ first_line format }
+{
+    match format {
+        Format::One => 1,
+        Format::Two => 2,
+    }
+}
+
 /// Does the lines of a script, one after another, up to a line `report` or the end. These are the lines of a transcript
-/// but `dial`,
-/// `msg`, `hang` and `took`, and `await W` beside them, which waits until window W's event file is open. It is alone
-/// where that isn't open and all of the first `clients` connections have ended. It rings for the connections that its
-/// entries replied to. None is done where the connections have begun without it, for want of a thread.
+/// but `dial`, `msg`, `hang` and `took`, and `await W` beside them, which waits until window W's event file is open. It
+/// is alone where that isn't open and all of the first `clients` connections have ended. A heading does nothing, and
+/// counts as a line. It rings for the connections that its entries replied to. None is done where the connections have
+/// begun without it, for want of a thread.
 pub fn script_side<C: Counter, R: Wait>(
     rt: &R,
     alloc: Global,
@@ -151,13 +162,13 @@ pub fn script_side<C: Counter, R: Wait>(
     ensures fits { C.fits script.now.desk.now seat.new }
     ensures gains { Gains (C.known seat.old) (gained (C.known seat.old) (C.known seat.new)) (C.known seat.new) }
     ensures ends { EndsScript C.enabled C.answer script.now.clients (C.known seat.old)
-        (asked_by_script script.now.lines.now) result (C.known seat.new) }
+        script.now.lines.now result (C.known seat.new) }
 {
     if !script.bells.begin_script() {
         return ScriptEnd::NoMemory;
     }
-    let mut rest = script.lines;
-    let mut line: u64 = 1;
+    let (format, mut rest) = split_heading(script.lines);
+    let mut line = first_line(format);
     while !rest.is_empty() {
         let (first, after) = split_line(rest);
         match do_line(rt, alloc, script, seat, first) {

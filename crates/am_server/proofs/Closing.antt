@@ -10,14 +10,18 @@ use Rattle.am_base.specs.Stops.{input_limit}
 use Rattle.am_base.specs.Seen.{Given, HostSeen, Seen}
 use Rattle.am_base.specs.Written.{IsWhole, IsCut, IsPut}
 use Rattle.am_journal.specs.declared.event.Event.{Event}
+use Rattle.am_journal.specs.declared.event.Format.{Format}
+use Rattle.am_journal.specs.declared.event.Format.TheVariants.{Two}
+use Rattle.am_journal.specs.declared.event.Journal.{Journal}
+use Rattle.am_journal.specs.Journal.{journal_in}
 use Rattle.ninep_cut.specs.Laws.{JoinsPieces, CutsNoMore}
 use Rattle.am_journal.specs.Lawful.{IsLawful, IsInRange}
 use Rattle.am_counter.specs.Known.{Known, lists_of}
 use Rattle.am_counter.specs.Played.{IsPlayed, ArePlayed}
 use Rattle.am_serve.specs.declared.scripting.ScriptEnd.{ScriptEnd}
 use Rattle.acme_core.proofs.Connected.{tells_connections}
-use Rattle.acme_core.specs.Asks.{answer_at}
-use Rattle.acme_core.specs.Run.{enabled, output_at}
+use Rattle.acme_core.specs.Asks.{answers_in}
+use Rattle.acme_core.specs.Run.{enabled_in, output_in, AreEnabled}
 use Rattle.am_desk.specs.Knowing.{EachOnce}
 use Rattle.am_slots.proofs.Ran.{ran}
 use Rattle.am_slots.specs.Serving.{EachTells, ServesAll, IsRun}
@@ -33,15 +37,17 @@ use Rattle.am_server.specs.Served.{served_from}
 use Rattle.am_server.specs.declared.served.Served.{Served}
 use Rattle.am_server.specs.declared.writing.ServeEnd.{ServeEnd}
 
-lawful_from : (before events : List Event) → ArePlayed enabled before events → AllByRecursion IsLawful events
+lawful_from : (f : Format) (before events : List Event) → ArePlayed (enabled_in f) before events
+    → AllByRecursion IsLawful events
 unfolding ArePlayed
-lawful_from before [] p = tt
-lawful_from before (e ∷ events) p = (p.0, lawful_from (before ++ e ∷ []) events p.2)
+lawful_from f before [] p = tt
+lawful_from f before (e ∷ events) p = (p.0, lawful_from f (before ++ e ∷ []) events p.2)
 
 -- events that were played are lawful
-pub lawful_played : (seen journal : List Event) → journal ≡ seen → IsPlayed enabled seen
-    → AllByRecursion IsLawful journal
-lawful_played seen journal is p = subst (λ (l : List Event). AllByRecursion IsLawful l) (sym is) (lawful_from [] seen p)
+pub lawful_played : (seen : List Event) (journal : Journal) → journal ≡ journal_in Two seen
+    → IsPlayed (enabled_in Two) seen → AllByRecursion IsLawful journal.events
+lawful_played seen journal is p = subst (λ (j : Journal). AllByRecursion IsLawful j.events) (sym is)
+    (lawful_from Two [] seen p)
 
 -- what an output got of a text, by what writing it answered
 got : {T E : Type 0} (o : Seen) (text whole : List ℕ) (r : Result T E) → text ≡ whole → OnOk r (IsWhole o text)
@@ -70,35 +76,41 @@ module _ {G L S K : Type 0} where
   pub served_lines : (law : EndedGetAllReplies) (joins : JoinsPieces) (breaks : CutsNoMore) (m : Outside G L S K)
       (path : List ℕ) (clients : ℕ) (lines : List ℕ) (h : HostSeen) (o : Seen) (slots : List (Slot G L S K))
       (script : ScriptEnd) (w : Known)
-      (core journal : List Event) (served : List (Served G L S K)) (e : ServeEnd)
-      → length slots ≡ clients → clients ≤ 64 → IsPlayed enabled w.seen → AllByRecursion IsInRange w.seen
+      (core journal : Journal) (served : List (Served G L S K)) (e : ServeEnd)
+      → length slots ≡ clients → clients ≤ 64 → IsPlayed (enabled_in Two) w.seen → AllByRecursion IsInRange w.seen
       → AllStand w.seen (lists_of w) → EachOnce w → KeepsOrder w.seen (lists_of w)
-      → ServesAll m enabled output_at answer_at clients lines slots script w → EachTells m path 0 slots
+      → ServesAll m (enabled_in Two) (output_in Two) (answers_in Two) clients lines slots script w
+      → EachTells m path 0 slots
       → HasRisenBy (unbound slots) h.before.faults h.now.faults
       → HasGiven clients (unbound slots) h.before.given h.now.given
-      → core ≡ w.seen → journal ≡ core → served ≡ served_from core 0 slots → Writes core slots script o e
+      → core ≡ journal_in Two w.seen → journal ≡ core → served ≡ served_from core.events 0 slots
+      → Writes core slots script o e
       → ServesLines m path clients lines h o journal served e
   served_lines law joins breaks m path clients lines h o slots script w core journal served e count few played ranged
       own once order serves tells risen given same is told writes =
-      let now_played : IsPlayed enabled journal = subst (IsPlayed enabled) (sym (is ∙ same)) played in
-      let run : IsRun m enabled output_at answer_at clients lines journal slots script =
-      subst (λ (l : List Event). IsRun m enabled output_at answer_at clients lines l slots script) (sym (is ∙ same))
-      (ran m enabled output_at answer_at tells_connections clients lines slots script w played own once order count few
-      serves) in
-      let now_told : served ≡ served_from journal 0 slots = told ∙ ap (λ (l : List Event). served_from l 0 slots)
-      (sym is) in
+      let whole : journal_in Two w.seen ≡ journal = sym (is ∙ same) in
+      let now_played : AreEnabled journal = subst AreEnabled whole played in
+      let run : IsRun m (enabled_in journal.format) (output_in journal.format) (answers_in journal.format) clients lines
+      journal.events slots script =
+      subst (λ (j : Journal). IsRun m (enabled_in j.format) (output_in j.format) (answers_in j.format) clients lines
+      j.events slots script) whole
+      (ran m (enabled_in Two) (output_in Two) (answers_in Two) (tells_connections Two) clients lines slots script w
+      played own once order count few serves) in
+      let now_told : served ≡ served_from journal.events 0 slots = told
+      ∙ ap (λ (j : Journal). served_from j.events 0 slots) (sym is) in
       inl record {
         slots = slots;
         done = script;
         count = count;
+        format = sym (ap (λ (j : Journal). j.format) whole);
         played = now_played;
-        in_range = subst (λ (l : List Event). AllByRecursion IsInRange l) (sym (is ∙ same)) ranged;
+        in_range = subst (λ (j : Journal). AllByRecursion IsInRange j.events) whole ranged;
         run = run;
         tells = tells;
         risen = risen;
         given = given;
         told = now_told;
-        writes = subst (λ (l : List Event). Writes l slots script o e) (sym is) writes;
+        writes = subst (λ (j : Journal). Writes j slots script o e) (sym is) writes;
         replied = λ well. subst (λ (l : List (Served G L S K)). AllByRecursion (GotAll m journal) l) (sym now_told)
             (got_all m journal law now_played path 0 slots (omega (arith, count, few)) run.each tells
             (wrote_well core slots script o e writes well));
@@ -106,7 +118,7 @@ module _ {G L S K : Type 0} where
             (sound_all joins breaks m journal path 0 slots run.each tells);
       }
 
-  pub says_lines : (m : Outside G L S K) (path : List ℕ) (clients : ℕ) (i : Given) (o : Seen) (journal : List Event)
+  pub says_lines : (m : Outside G L S K) (path : List ℕ) (clients : ℕ) (i : Given) (o : Seen) (journal : Journal)
       (served : List (Served G L S K)) (e : ServeEnd) (lines : List ℕ)
       → AreTold i.input.before.bytes lines → length lines ≤ input_limit
       → ServesLines m path clients lines i.host o journal served e
@@ -114,7 +126,7 @@ module _ {G L S K : Type 0} where
   says_lines m path clients i o journal served e lines told fits (inl s) = inr (inr (inr (lines, told, fits, s)))
   says_lines m path clients i o journal served e lines told fits (inr t) = inr (inr (inl t))
 
-  pub says_long : (m : Outside G L S K) (path : List ℕ) (clients : ℕ) (i : Given) (o : Seen) (journal : List Event)
+  pub says_long : (m : Outside G L S K) (path : List ℕ) (clients : ℕ) (i : Given) (o : Seen) (journal : Journal)
       (served : List (Served G L S K)) (e : ServeEnd)
       → IfSome i.input.before.bytes (λ bytes. input_limit < length bytes) → IsTooLong o journal served e
       → SaysServe m path clients i o journal served e

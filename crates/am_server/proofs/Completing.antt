@@ -11,12 +11,14 @@ use Rattle.am_base.specs.Stops.{input_limit}
 use Rattle.am_base.specs.Seen.{Given, Seen}
 use Rattle.am_base.specs.Written.{IsWhole}
 use Rattle.am_journal.specs.declared.event.Event.{Event}
-use Rattle.am_journal.specs.Journal.{journal_text}
+use Rattle.am_journal.specs.declared.event.Journal.{Journal}
+use Rattle.am_journal.specs.declared.event.Format.{Format}
+use Rattle.am_journal.specs.Journal.{behind_heading, journal_text}
 use Rattle.am_journal.specs.Report.{report_text}
 use Rattle.am_counter.specs.Known.{Known, Looks, Submits}
 use Rattle.am_counter.specs.Played.{IsPrefix}
-use Rattle.acme_core.specs.Asks.{answer_at}
-use Rattle.acme_core.specs.Run.{enabled}
+use Rattle.acme_core.specs.Asks.{answers_in}
+use Rattle.acme_core.specs.Run.{enabled_in}
 use Rattle.acme_core.specs.Views.{view_of}
 use Rattle.am_serve.specs.Gained.{plain}
 use Rattle.am_serve.specs.Script.{PassesLine, Passes, asked_by_script, asked_events, is_scripted}
@@ -62,29 +64,30 @@ one_longer now e is =
     omega (arith, ap length whole, length-append (filter is_scripted now) (e ∷ []))
 
 -- what was seen has the events of the lines that were passed
-passed_longer : (lines : List Asked) (v w : Known) → AreScripted lines → Passes enabled answer_at v lines w
+passed_longer : (f : Format) (lines : List Asked) (v w : Known) → AreScripted lines
+    → Passes (enabled_in f) (answers_in f) v lines w
     → scripted_in v.seen + length (asked_events lines) ≤ scripted_in w.seen
 unfolding Passes
-passed_longer [] v w are p =
+passed_longer f [] v w are p =
     omega (arith, longer v.seen p.0 p.1, ap (λ (k : Known). scripted_in k.seen) p.2)
-passed_longer (Does e ∷ lines) v w are (u, one, others) =
+passed_longer f (Does e ∷ lines) v w are (u, one, others) =
     let s = one.1 in
     omega (
       arith,
       longer v.seen s.0 s.1,
       one_longer s.0 e are.0,
       ap (λ (k : Known). scripted_in k.seen) s.4,
-      passed_longer lines u w are.1 others,
+      passed_longer f lines u w are.1 others,
     )
-passed_longer (Awaits x ∷ lines) v w are (u, one, others) =
+passed_longer f (Awaits x ∷ lines) v w are (u, one, others) =
     omega (
       arith,
       longer v.seen one.0.0 one.0.1,
       ap (λ (k : Known). scripted_in k.seen) one.0.2,
-      passed_longer lines u w are.1 others,
+      passed_longer f lines u w are.1 others,
     )
-passed_longer (Ends ∷ lines) v w are (u, one, others) = absurd one
-passed_longer (Faulty ∷ lines) v w are (u, one, others) = absurd one
+passed_longer f (Ends ∷ lines) v w are (u, one, others) = absurd one
+passed_longer f (Faulty ∷ lines) v w are (u, one, others) = absurd one
 
 no_events : (xs : List Event) → length xs ≡ 0 → xs ≡ []
 no_events [] e = refl
@@ -105,18 +108,19 @@ seen_before journal seen events p is enough =
     )) in
     sym (whole ∙ ap (λ (l : List Event). filter is_scripted seen ++ l) none ∙ append-nil (filter is_scripted seen))
 
-not_refused : (clients : ℕ) (lines : List ℕ) (journal : List Event) (line : ℕ) (fault : LineFault)
+not_refused : (clients : ℕ) (lines : List ℕ) (journal : Journal) (line : ℕ) (fault : LineFault)
     → NoneRefused clients lines journal
-    → DidScript enabled answer_at clients lines journal (script.Refused line fault) → ⊥
+    → DidScript (enabled_in journal.format) (answers_in journal.format) clients lines journal.events
+    (script.Refused line fault) → ⊥
 not_refused clients lines journal line fault none d =
     let r = d.did in
     let events : plain d.known.mine ≡ asked_events r.before = r.passed.events in
     let are : AreScripted r.before = front_scripted r.before (r.refused ∷ r.after)
-    (subst AreScripted r.split (lines_scripted (lines_of lines))) in
+    (subst AreScripted r.split (lines_scripted (behind_heading (lines_of lines)))) in
     let enough : length (asked_events r.before) ≤ scripted_in d.known.seen =
-    omega (arith, passed_longer r.before unseen d.known are r.passed.passes) in
+    omega (arith, passed_longer journal.format r.before unseen d.known are r.passed.passes) in
     none r.before r.after r.refused fault d.known.seen r.split d.seen
-    (seen_before journal d.known.seen (asked_events r.before) d.seen (d.events ∙ events) enough) r.cause
+    (seen_before journal.events d.known.seen (asked_events r.before) d.seen (d.events ∙ events) enough) r.cause
 
 -- ---- the outside
 
@@ -125,9 +129,9 @@ none_unbound zero before now h calm = refl
 none_unbound (suc n) before now (inl le) calm = absurd (calm (inl (omega (arith, le))))
 none_unbound (suc n) before now (inr le) calm = absurd (calm (inr le))
 
-module _ {G L S K : Type 0} (m : Outside G L S K) (journal : List Event) where
+module _ {G L S K : Type 0} (m : Outside G L S K) (journal : Journal) where
   none_failed : (path : List ℕ) (n : ℕ) (slots : List (Slot G L S K)) → EachTells m path n slots
-      → AllByRecursion (IsCalm m) (served_from journal n slots) → unbound slots ≡ 0
+      → AllByRecursion (IsCalm m) (served_from journal.events n slots) → unbound slots ≡ 0
       → list_any has_failed slots ≡ false
   none_failed path n [] tells calm bound = refl
   none_failed path n (slot.Unbound ∷ slots) tells calm bound = absurd (omega (arith, bound))
@@ -144,10 +148,10 @@ module _ {G L S K : Type 0} (m : Outside G L S K) (journal : List Event) where
 -- ---- what is written
 
 -- all is done and written, or memory ran out
-Well : Seen → List Event → ServeEnd → Type 0
+Well : Seen → Journal → ServeEnd → Type 0
 Well o journal e = ((e ≡ end.Done) × IsWhole o (whole_text journal)) ⊎ (e ≡ end.NoMemory)
 
-whole_or_out : (o : Seen) (journal : List Event) (untold : Bool) (e : ServeEnd) → e ≡ end_done untold false
+whole_or_out : (o : Seen) (journal : Journal) (untold : Bool) (e : ServeEnd) → e ≡ end_done untold false
     → IsWhole o (whole_text journal) → Well o journal e
 unfolding Well
 whole_or_out o journal true e is whole = inr is
@@ -164,7 +168,7 @@ module _ {G L S K : Type 0} where
       by_case true e others = absurd cc
       by_case false e others = others e
 
-  text_whole : (journal : List Event) (slots : List (Slot G L S K))
+  text_whole : (journal : Journal) (slots : List (Slot G L S K))
       → list_any has_failed slots ≡ false → served_text journal slots script.Done ≡ whole_text journal
   text_whole journal slots none =
       ap (λ (l : List ℕ). journal_text journal ++ report_text (view_of journal) ++ l ++ []) (no_hosts 0 slots none)
@@ -177,7 +181,7 @@ module _ {G L S K : Type 0} where
       false ≡ end_done (list_any wants_untold slots) false
   done_at slots none = ap (λ (b : Bool). cond b end.HostFault (end_done (list_any wants_untold slots) false)) none
 
-  wrote_well : (o : Seen) (journal : List Event) (slots : List (Slot G L S K)) (done : ScriptEnd) (e : ServeEnd)
+  wrote_well : (o : Seen) (journal : Journal) (slots : List (Slot G L S K)) (done : ScriptEnd) (e : ServeEnd)
       → ¬ HasRisen o.before.faults o.now.faults
       → list_any has_failed slots ≡ false → ((line : ℕ) (fault : LineFault) → done ≡ script.Refused line fault → ⊥)
       → Writes journal slots done o e → Well o journal e
@@ -194,7 +198,7 @@ module _ {G L S K : Type 0} where
   wrote_well o journal slots script.Done e calm none unrefused (inr (inr w)) = inr w.0
 
   pub served_complete : (m : Outside G L S K) (path : List ℕ) (clients : ℕ) (lines : List ℕ) (i : Given) (o : Seen)
-      (journal : List Event) (served : List (Served G L S K)) (e : ServeEnd)
+      (journal : Journal) (served : List (Served G L S K)) (e : ServeEnd)
       → Serves m path clients lines i.host o journal served e → IsComplete m clients lines i o journal served e
   unfolding Well
   served_complete m path clients lines i o journal served e s = λ h.
@@ -203,12 +207,13 @@ module _ {G L S K : Type 0} where
       (none_unbound (unbound s.slots) i.host.before.faults i.host.now.faults s.risen h.host) in
       let unrefused : (line : ℕ) (fault : LineFault) → s.done ≡ script.Refused line fault → ⊥ =
       λ line fault is. not_refused clients lines journal line fault h.none_refused
-      (subst (λ (x : ScriptEnd). DidScript enabled answer_at clients lines journal x) is s.run.did) in
+      (subst (λ (x : ScriptEnd). DidScript (enabled_in journal.format) (answers_in journal.format) clients lines
+      journal.events x) is s.run.did) in
       wrote_well o journal s.slots s.done e h.output failed unrefused s.writes
 
   -- where the script tells its bytes
   pub says_complete : (m : Outside G L S K) (path : List ℕ) (clients : ℕ) (lines : List ℕ) (i : Given) (o : Seen)
-      (journal : List Event) (served : List (Served G L S K)) (e : ServeEnd)
+      (journal : Journal) (served : List (Served G L S K)) (e : ServeEnd)
       → i.input.before.bytes ≡ Some lines → SaysServe m path clients i o journal served e
       → IsComplete m clients lines i o journal served e
   says_complete m path clients lines i o journal served e told (inl s) = λ h. absurd (h.input s.1)

@@ -1,16 +1,19 @@
 -- Texts that are put a piece at a time.
 use Rattle.std.proofs.Common.{◌≡◌, inl, inr, ℕ, ◌+◌, ◌<◌, ◌≤◌, List, [], ◌∷◌, ◌++◌, length, take, drop, get_or, refl}
 use Rattle.std.proofs.Common.{sym, ap, subst, ◌∙◌, append_assoc, arith, if◌then◌else◌}
+use Rattle.std.specs.Prelude.{Result, Ok, Err, OnOk, IfErr}
 use Rattle.std.specs.List.{flat_map}
 use Rattle.std.proofs.lemmas.List.{append-nil, take_more, length-take-le, take-append-drop}
 use Rattle.std.proofs.lemmas.Grind.{flat_map-append}
 use Rattle.std.proofs.Math.Seq.{take-length}
-use Rattle.am_base.specs.Outside.{BytesTold}
-use Rattle.am_base.specs.Seen.{seen}
+use Rattle.am_base.specs.Outside.{BytesTold, HasRisen, PutsFront}
+use Rattle.am_base.specs.Seen.{Seen, seen}
 use Rattle.am_base.specs.Written.{IsWhole, IsCut}
 use Rattle.am_base.proofs.Puts.{whole_then, cut_then, cut_longer}
 use Rattle.am_journal.specs.declared.event.Event.{Event}
-use Rattle.am_journal.specs.Journal.{ended_line, journal_text}
+use Rattle.am_journal.specs.declared.event.Format.{Format}
+use Rattle.am_journal.specs.declared.event.Journal.{Journal}
+use Rattle.am_journal.specs.Journal.{ended_line, events_text, heading_text, journal_in, journal_text}
 use Rattle.am_journal.specs.Report.{report_text}
 use Rattle.am_journal.proofs.Joined.{flat_map-more}
 use Rattle.acme_core.specs.Views.{view_of}
@@ -43,15 +46,54 @@ stops_more stop.NoMemory a b c fronts k piece rest whole is all p le q = (k, who
 
 -- ---- the journal
 
-pub journal_more : (journal : List Event) (k : ℕ) (e : Event) → k < length journal → e ≡ get_or journal k e
-    → journal_text (take (k + 1) journal) ≡ journal_text (take k journal) ++ ended_line e
-journal_more journal k e lt is = flat_map-more ended_line journal k e lt
-    ∙ ap (λ (x : Event). journal_text (take k journal) ++ ended_line x) (sym is)
+pub events_more : (events : List Event) (k : ℕ) (e : Event) → k < length events → e ≡ get_or events k e
+    → events_text (take (k + 1) events) ≡ events_text (take k events) ++ ended_line e
+events_more events k e lt is = flat_map-more ended_line events k e lt
+    ∙ ap (λ (x : Event). events_text (take k events) ++ ended_line x) (sym is)
 
-pub journal_split : (journal : List Event) (k : ℕ) → journal_text journal ≡ journal_text (take k journal)
-    ++ journal_text (drop k journal)
-journal_split journal k = ap (flat_map ended_line) (sym (take-append-drop k journal))
-    ∙ flat_map-append ended_line (take k journal) (drop k journal)
+pub events_split : (events : List Event) (k : ℕ) → events_text events ≡ events_text (take k events)
+    ++ events_text (drop k events)
+events_split events k = ap (flat_map ended_line) (sym (take-append-drop k events))
+    ∙ flat_map-append ended_line (take k events) (drop k events)
+
+-- the events behind the heading, by what writing them answered
+pub events_put : {T E : Type 0} (journal : Journal) (a b c : BytesTold) (r : Result T E)
+    → IsWhole (seen a b) (heading_text journal.format) → OnOk r (IsWhole (seen b c) (events_text journal.events))
+    → OnOk r (IsWhole (seen a c) (journal_text journal))
+events_put journal a b c (Ok x) put p =
+    whole_then a b c (heading_text journal.format) (events_text journal.events) put p
+events_put journal a b c (Err e) put p = tt
+
+stops_behind : (journal : Journal) (s : Stop) (a b c : BytesTold) → IsWhole (seen a b) (heading_text journal.format)
+    → a.faults ≤ b.faults
+    → StopsIn s (seen b c) (events_text journal.events) (λ n. events_text (take n journal.events))
+    → StopsIn s (seen a c) (journal_text journal)
+    (λ n. journal_text (journal_in journal.format (take n journal.events)))
+stops_behind journal stop.Failed a b c put le p =
+    cut_then a b c (heading_text journal.format) (events_text journal.events) put le p
+stops_behind journal stop.NoMemory a b c put le p =
+    (p.0, whole_then a b c (heading_text journal.format) (events_text (take p.0 journal.events)) put p.1)
+
+pub events_stop : {T : Type 0} (journal : Journal) (a b c : BytesTold) (r : Result T Stop)
+    → IsWhole (seen a b) (heading_text journal.format) → a.faults ≤ b.faults
+    → IfErr r (λ s. StopsIn s (seen b c) (events_text journal.events) (λ n. events_text (take n journal.events)))
+    → IfErr r (λ s. StopsIn s (seen a c) (journal_text journal)
+    (λ n. journal_text (journal_in journal.format (take n journal.events))))
+events_stop journal a b c (Ok x) put le p = tt
+events_stop journal a b c (Err s) put le p = stops_behind journal s a b c put le p
+
+-- the heading of a format, that of the journal
+pub heading_put : (journal : Journal) (o : Seen) (text : List ℕ) (format : Format) → text ≡ heading_text format
+    → format ≡ journal.format → IsWhole o text → IsWhole o (heading_text journal.format)
+heading_put journal o text format is same p = subst (IsWhole o) (is ∙ ap heading_text same) p
+
+-- it was cut
+pub heading_cut : (journal : Journal) (o : Seen) (text : List ℕ) (format : Format) → text ≡ heading_text format
+    → format ≡ journal.format → PutsFront o.before.bytes text o.now.bytes → HasRisen o.before.faults o.now.faults
+    → IsCut o (journal_text journal)
+heading_cut journal o text format is same front risen =
+    cut_longer o.before o.now (heading_text journal.format) (events_text journal.events)
+    (subst (IsCut o) (is ∙ ap heading_text same) (record { front = front; risen = risen }))
 
 module _ {G L S K : Type 0} where
   -- ---- the lines of slots
@@ -85,7 +127,7 @@ module _ {G L S K : Type 0} where
 
   -- ---- the whole text
 
-  module _ (journal : List Event) (slots : List (Slot G L S K)) (end : ScriptEnd) (s : Stop) where
+  module _ (journal : Journal) (slots : List (Slot G L S K)) (end : ScriptEnd) (s : Stop) where
     abbrev J : List ℕ
     J = journal_text journal
 
@@ -98,11 +140,13 @@ module _ {G L S K : Type 0} where
     abbrev F : List ℕ
     F = refusal_text end
 
-    pub stops_in_journal : (a b : BytesTold) → StopsIn s (seen a b) J (λ n. journal_text (take n journal))
+    pub stops_in_journal : (a b : BytesTold)
+        → StopsIn s (seen a b) J (λ n. journal_text (journal_in journal.format (take n journal.events)))
         → StopsAt s (seen a b) journal slots end
     stops_in_journal a b = by_case s
       where
-        by_case : (x : Stop) → StopsIn x (seen a b) J (λ n. journal_text (take n journal))
+        by_case : (x : Stop)
+            → StopsIn x (seen a b) J (λ n. journal_text (journal_in journal.format (take n journal.events)))
             → StopsAt x (seen a b) journal slots end
         by_case stop.Failed p = cut_longer a b (J ++ R ++ H) F (cut_longer a b (J ++ R) H (cut_longer a b J R p))
         by_case stop.NoMemory p = inl p
@@ -115,9 +159,9 @@ module _ {G L S K : Type 0} where
         by_case stop.Failed p = cut_longer a c (J ++ R ++ H) F (cut_longer a c (J ++ R) H (cut_then a b c J R put le p))
         by_case stop.NoMemory p =
             inl (
-              length journal,
-              subst (λ (l : List Event). IsWhole (seen a c) (journal_text l))
-                  (sym (take-length journal)) (whole_still a b c J put p.1),
+              length journal.events,
+              subst (λ (l : List Event). IsWhole (seen a c) (journal_text (journal_in journal.format l)))
+                  (sym (take-length journal.events)) (whole_still a b c J put p.1),
             )
 
     pub stops_in_hosts : (a b c : BytesTold) → IsWhole (seen a b) (J ++ R) → a.faults ≤ b.faults

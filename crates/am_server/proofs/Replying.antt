@@ -7,14 +7,14 @@ use Rattle.am_base.specs.Outside.{AreTold, HasRisen, told_then}
 use Rattle.am_base.specs.Seen.{Seen}
 use Rattle.am_journal.specs.declared.ending.Ending.{Ending}
 use Rattle.am_journal.specs.declared.ending.Ending.TheVariants as ending
-use Rattle.am_journal.specs.declared.event.Event.{Event}
-use Rattle.am_counter.specs.Played.{IsPlayed}
+use Rattle.am_journal.specs.declared.event.Journal.{Journal}
+use Rattle.am_journal.specs.Journal.{journal_in}
 use Rattle.am_serve.specs.declared.scripting.ScriptEnd.{ScriptEnd}
 use Rattle.am_serve.specs.declared.scripting.ScriptEnd.TheVariants as script
 use Rattle.am_serve.specs.declared.writing.WriteEnd.{WriteEnd}
 use Rattle.am_serve.specs.declared.writing.WriteEnd.TheVariants as write
-use Rattle.acme_core.specs.Asks.{answer_at}
-use Rattle.acme_core.specs.Run.{enabled, output_at}
+use Rattle.acme_core.specs.Asks.{answers_in}
+use Rattle.acme_core.specs.Run.{enabled_in, output_in, AreEnabled}
 use Rattle.core_laws.specs.Replies.{replies}
 use Rattle.core_laws.specs.Laws.{EndedGetAllReplies}
 use Rattle.am_slots.specs.Connection.{endings_of}
@@ -64,10 +64,11 @@ neither false b h = (refl, h)
 
 -- ---- one slot
 
-module _ {G L S K : Type 0} (m : Outside G L S K) (journal : List Event) (law : EndedGetAllReplies)
-    (played : IsPlayed enabled journal) where
+module _ {G L S K : Type 0} (m : Outside G L S K) (journal : Journal) (law : EndedGetAllReplies)
+    (played : AreEnabled journal) where
   got_served : (n : ℕ) (x : Objects G L S K) (read : Option Ending) (wrote : WriteEnd) (why : Ending) → n < 64
-      → IsServed enabled output_at answer_at journal n (m.link x.link).begins (m.reader x.reader).bytes read wrote
+      → IsServed (enabled_in journal.format) (output_in journal.format) (answers_in journal.format)
+      journal.events n (m.link x.link).begins (m.reader x.reader).bytes read wrote
       (m.writer x.writer).bytes → Tells m (slot.Served x read wrote)
       → wants_untold (slot.Served x read wrote) ≡ false → IsCause read wrote why → why ≢ ending.NoMemory
       → (m.writer x.writer).faults ≡ 0
@@ -75,22 +76,25 @@ module _ {G L S K : Type 0} (m : Outside G L S K) (journal : List Event) (law : 
   got_served n x read write.Ended why low is tells told caused other fine =
       let d = is.drained refl in
       told_whole (m.writer x.writer).bytes is.empty (replies journal n) is.begins_empty
-      (is.gets ∙ ap (told_then is.empty) (law d.0 journal n low played d.1 d.2 d.3))
+      (is.gets ∙ ap (told_then is.empty) (law (journal_in journal.format d.0) journal n low played
+      (d.1.0, ap (journal_in journal.format) d.1.1) d.2 d.3))
   got_served n x read write.Gone why low is tells told caused other fine =
       absurd (risen_above (m.writer x.writer).faults (tells.3 refl) fine)
   got_served n x None write.NoMemory why low is tells told caused other fine = absurd (other caused)
   got_served n x (Some read) write.NoMemory why low is tells told caused other fine =
       absurd (other (caused ∙ for_memory read told))
 
-  got_one : (n : ℕ) (s : Slot G L S K) → n < 64 → IsOf m enabled output_at answer_at journal n s → Tells m s
-      → wants_untold s ≡ false → GotAll m journal (served_of journal n s)
+  got_one : (n : ℕ) (s : Slot G L S K) → n < 64
+      → IsOf m (enabled_in journal.format) (output_in journal.format) (answers_in journal.format)
+      journal.events n s → Tells m s
+      → wants_untold s ≡ false → GotAll m journal (served_of journal.events n s)
   got_one n slot.Unbound low is tells told = λ why sink ended other there fine. absurd cc
   got_one n (slot.Bound gate) low is tells told = absurd tells
   got_one n (slot.Unlinked gate) low is tells told = λ why sink ended other there fine. absurd cc
   got_one n (slot.Unhalved gate link) low is tells told = λ why sink ended other there fine. absurd cc
   got_one n (slot.Undialled x refused) low is tells told = absurd cc
   got_one n (slot.Served x read wrote) low is tells told = λ why sink ended other there fine.
-      let cause : is.cause ≡ why = cause_told (endings_of journal n) is.cause why is.ended ended in
+      let cause : is.cause ≡ why = cause_told (endings_of journal.events n) is.cause why is.ended ended in
       let same : x.writer ≡ sink = cc in
       let caused : IsCause read wrote why = subst (λ (c : Ending). IsCause read wrote c) cause is.caused in
       subst (λ (k : K). AreTold (m.writer k).bytes (replies journal n)) same
@@ -99,8 +103,10 @@ module _ {G L S K : Type 0} (m : Outside G L S K) (journal : List Event) (law : 
   -- ---- all slots
 
   pub got_all : (path : List ℕ) (n : ℕ) (slots : List (Slot G L S K)) → n + length slots ≤ 64
-      → EachIs m enabled output_at answer_at journal n slots → EachTells m path n slots
-      → list_any wants_untold slots ≡ false → AllByRecursion (GotAll m journal) (served_from journal n slots)
+      → EachIs m (enabled_in journal.format) (output_in journal.format) (answers_in journal.format)
+      journal.events n slots
+      → EachTells m path n slots
+      → list_any wants_untold slots ≡ false → AllByRecursion (GotAll m journal) (served_from journal.events n slots)
   got_all path n [] few is tells none = tt
   got_all path n (s ∷ slots) few is tells none =
       let both = neither (wants_untold s) (list_any wants_untold slots) none in (
@@ -116,7 +122,7 @@ done_well true untold failed h = absurd h
 done_well false true failed h = absurd h
 done_well false false failed h = refl
 
-module _ {G L S K : Type 0} (journal : List Event) (slots : List (Slot G L S K)) where
+module _ {G L S K : Type 0} (journal : Journal) (slots : List (Slot G L S K)) where
   well_at : (done : ScriptEnd) (failed : Bool) → AllDone (end_at slots done failed)
       → list_any wants_untold slots ≡ false
   well_at (script.Refused line why) failed h = absurd h

@@ -23,12 +23,14 @@ use Rattle.am_journal.specs.declared.ending.Bad.TheVariants as bad
 use Rattle.am_journal.specs.declared.ending.Ending.{Ending}
 use Rattle.am_journal.specs.declared.ending.Ending.TheVariants as ending
 use Rattle.am_journal.specs.declared.event.Event.{Event}
+use Rattle.am_journal.specs.declared.event.Journal.{Journal}
 use Rattle.am_journal.specs.declared.event.Event.TheVariants.{Msg}
 use Rattle.am_journal.specs.declared.event.Why.{Why}
 use Rattle.am_journal.specs.declared.event.Why.TheVariants as why
+use Rattle.am_journal.specs.Journal.{journal_in}
 use Rattle.am_counter.specs.Played.{IsPrefix, has_hang}
-use Rattle.acme_core.specs.Asks.{answer_at}
-use Rattle.acme_core.specs.Run.{enabled, output_at}
+use Rattle.acme_core.specs.Asks.{answers_in}
+use Rattle.acme_core.specs.Run.{enabled_in, output_in}
 use Rattle.am_serve.specs.Budget.{message_limit, byte_limit, fits_budget}
 use Rattle.am_serve.specs.Reading.{messages_of, spelled_on, StandAmong, IsNext, NextFaulty, NextRefused, SizeFaulty}
 use Rattle.am_serve.specs.Reading.{IsBroken, EndsAfter}
@@ -108,7 +110,7 @@ one_message (Err x) a b p q = absurd cc
 
 -- ---- a piece of a stream of whole messages
 
-module _ (joins : JoinsPieces) (breaks : CutsNoMore) (journal : List Event) (conn : ℕ) (piece more : List ℕ)
+module _ (joins : JoinsPieces) (breaks : CutsNoMore) (journal : Journal) (conn : ℕ) (piece more : List ℕ)
     (whole : (cut_stream (piece ++ more)).rest ≡ [])
     (fits : fits_budget (cut_stream (piece ++ more)).messages ≡ true)
     (may : MayCome journal conn (cut_stream (piece ++ more)).messages) where
@@ -142,15 +144,17 @@ module _ (joins : JoinsPieces) (breaks : CutsNoMore) (journal : List Event) (con
       front_of_none [] ys e = refl
       front_of_none (x ∷ xs) ys e = absurd cc
 
-  module _ (before : List Event) (front : IsPrefix before journal) (goes_on : has_hang before conn ≡ false) where
-    in_turn : (given : List (List ℕ)) (reason : Why) → messages_of before conn ≡ given → NextRefused enabled conn before
-        given (cut_stream piece) reason
-        → (msg : TMsg) × IsInTurn before conn msg × (enabled before (Msg conn msg) ≡ Some reason)
+  module _ (before : List Event) (front : IsPrefix before journal.events) (goes_on : has_hang before conn ≡ false) where
+    in_turn : (given : List (List ℕ)) (reason : Why) → messages_of before conn ≡ given
+        → NextRefused (enabled_in journal.format) conn before given (cut_stream piece) reason
+        → (msg : TMsg) × IsInTurn (journal_in journal.format before) conn msg
+        × (enabled_in journal.format before (Msg conn msg) ≡ Some reason)
     in_turn given reason exact n =
         let next = next_of_all given n.0 n.2.0 in
         let read = may given next.0 n.0 next.1 in (
           n.1,
-          subst (λ (x : TMsg). IsInTurn before conn x) (one_message (t_of n.0) read.0 n.1 read.1 n.3)
+          subst (λ (x : TMsg). IsInTurn (journal_in journal.format before) conn x)
+              (one_message (t_of n.0) read.0 n.1 read.1 n.3)
               (read.2 before front exact goes_on),
           n.4,
         )
@@ -166,8 +170,8 @@ module _ (joins : JoinsPieces) (breaks : CutsNoMore) (journal : List Event) (con
         let same : true ≡ false = sym inside ∙ out in
         cc
 
-    not_broken : (given : List (List ℕ)) (b : Bad) → messages_of before conn ≡ given → IsBroken enabled conn before
-        given (cut_stream piece) b → ⊥
+    not_broken : (given : List (List ℕ)) (b : Bad) → messages_of before conn ≡ given
+        → IsBroken (enabled_in journal.format) conn before given (cut_stream piece) b → ⊥
     not_broken given (bad.Wire f) exact (inl n) = not_faulty given f n
     not_broken given (bad.Wire f) exact (inr n) = not_size given n.1
     not_broken given bad.Size exact n = let t = in_turn given why.Size exact n in t.1.0 t.2
@@ -175,7 +179,7 @@ module _ (joins : JoinsPieces) (breaks : CutsNoMore) (journal : List Event) (con
 
     ends_soundly : (given : List (List ℕ)) (cause : Ending) → messages_of before conn ≡ given →
         (cause ≡ ending.Torn → more ≡ []) → (cause ≡ ending.ReadFault → ⊥)
-        → EndsAfter enabled conn before given (cut_stream piece) cause → (cause ≡ ending.End)
+        → EndsAfter (enabled_in journal.format) conn before given (cut_stream piece) cause → (cause ≡ ending.End)
         ⊎ (cause ≡ ending.NoMemory)
     ends_soundly given ending.End exact torn fault e = inl refl
     ends_soundly given ending.Torn exact torn fault e =
@@ -196,11 +200,12 @@ told_parts first None piece bytes told read = absurd (let same : Some bytes ≡ 
 told_parts first (Some more) piece bytes told read = let same : Some bytes ≡ Some (piece ++ more) = sym told ∙ read in
     (more, refl, cc)
 
-module _ {G L S K : Type 0} (joins : JoinsPieces) (breaks : CutsNoMore) (m : Outside G L S K) (journal : List Event)
+module _ {G L S K : Type 0} (joins : JoinsPieces) (breaks : CutsNoMore) (m : Outside G L S K) (journal : Journal)
   where
     served_soundly : (n : ℕ) (x : Objects G L S K) (read : Option Ending) (wrote : WriteEnd) (cause : Ending)
         (bytes : List ℕ)
-        → IsServed enabled output_at answer_at journal n (m.link x.link).begins (m.reader x.reader).bytes read wrote
+        → IsServed (enabled_in journal.format) (output_in journal.format) (answers_in journal.format)
+        journal.events n (m.link x.link).begins (m.reader x.reader).bytes read wrote
         (m.writer x.writer).bytes → Tells m (slot.Served x read wrote) → IsCause read wrote cause
         → (m.link x.link).begins ≡ Some bytes → (m.reader x.reader).faults ≡ 0 → (m.writer x.writer).faults ≡ 0 →
         (cut_stream bytes).rest ≡ []
@@ -211,7 +216,7 @@ module _ {G L S K : Type 0} (joins : JoinsPieces) (breaks : CutsNoMore) (m : Out
         absurd (risen_above (m.writer x.writer).faults (tells.3 refl) writes)
     served_soundly n x None write.NoMemory cause bytes is tells caused told reads writes whole fits may = inr caused
     served_soundly n x (Some r) wrote cause bytes is tells caused told reads writes whole fits may =
-        let given = messages_of journal n in
+        let given = messages_of journal.events n in
         let g = is.gives in
         let piece : List ℕ = g.0 in
         let before : List Event = g.3.0 in
@@ -225,18 +230,21 @@ module _ {G L S K : Type 0} (joins : JoinsPieces) (breaks : CutsNoMore) (m : Out
         (subst (λ (l : List ℕ). (cut_stream l).rest ≡ []) split whole)
         (subst (λ (l : List ℕ). fits_budget (cut_stream l).messages ≡ true) split fits)
         (subst (λ (l : List ℕ). MayCome journal n (cut_stream l).messages) split may)
-        before turn.front turn.goes_on given r (just_these journal before n turn.front turn.messages) torn fault g.3.2 in
+        before turn.front turn.goes_on given r (just_these journal.events before n turn.front turn.messages) torn fault
+        g.3.2 in
         subst (λ (c : Ending). (c ≡ ending.End) ⊎ (c ≡ ending.NoMemory)) (sym caused) ends
 
-    sound_one : (n : ℕ) (s : Slot G L S K) → IsOf m enabled output_at answer_at journal n s → Tells m s
-        → EndsWell m journal (served_of journal n s)
+    sound_one : (n : ℕ) (s : Slot G L S K)
+        → IsOf m (enabled_in journal.format) (output_in journal.format) (answers_in journal.format) journal.events n s
+        → Tells m s
+        → EndsWell m journal (served_of journal.events n s)
     sound_one n slot.Unbound is tells = λ cause ended sound. absurd cc
     sound_one n (slot.Bound gate) is tells = absurd tells
     sound_one n (slot.Unlinked gate) is tells = λ cause ended sound. absurd cc
     sound_one n (slot.Unhalved gate link) is tells = λ cause ended sound. absurd cc
     sound_one n (slot.Undialled x refused) is tells = λ cause ended sound. absurd cc
     sound_one n (slot.Served x read wrote) is tells = λ cause ended sound.
-        let same : is.cause ≡ cause = cause_told (endings_of journal n) is.cause cause is.ended ended in
+        let same : is.cause ≡ cause = cause_told (endings_of journal.events n) is.cause cause is.ended ended in
         let linked : x.link ≡ sound.link = let e = sound.linked in cc in
         let reads : x.reader ≡ sound.reader = let e = sound.read in cc in
         let writes : x.writer ≡ sound.writer = let e = sound.written in cc in
@@ -246,7 +254,9 @@ module _ {G L S K : Type 0} (joins : JoinsPieces) (breaks : CutsNoMore) (m : Out
         (ap (λ (x : K). (m.writer x).faults) writes ∙ sound.writes) sound.whole sound.fits sound.may_come
 
     pub sound_all : (path : List ℕ) (n : ℕ) (slots : List (Slot G L S K))
-        → EachIs m enabled output_at answer_at journal n slots → EachTells m path n slots
-        → AllByRecursion (EndsWell m journal) (served_from journal n slots)
+        → EachIs m (enabled_in journal.format) (output_in journal.format) (answers_in journal.format)
+        journal.events n slots
+        → EachTells m path n slots
+        → AllByRecursion (EndsWell m journal) (served_from journal.events n slots)
     sound_all path n [] is tells = tt
     sound_all path n (s ∷ slots) is tells = (sound_one n s is.0 tells.1, sound_all path (n + 1) slots is.1 tells.2)

@@ -6,11 +6,12 @@ use Rattle.am_base.specs.Stops.{input_limit}
 use Rattle.am_base.specs.Seen.{Given, Seen}
 use Rattle.am_base.specs.Written.{IsWhole}
 use Rattle.am_journal.specs.declared.event.Event.{Event}
+use Rattle.am_journal.specs.declared.event.Journal.{Journal}
 use Rattle.am_journal.specs.Journal.{journal_text}
 use Rattle.am_journal.specs.Report.{report_text}
 use Rattle.am_counter.specs.Played.{IsPrefix}
-use Rattle.acme_core.specs.Asks.{answer_at}
-use Rattle.acme_core.specs.Run.{enabled}
+use Rattle.acme_core.specs.Asks.{answers_in}
+use Rattle.acme_core.specs.Run.{enabled_in}
 use Rattle.acme_core.specs.Views.{view_of}
 use Rattle.am_serve.specs.Script.{IsRefused, asked_by_script, asked_events, is_scripted}
 use Rattle.am_serve.specs.declared.asked.Asked.{Asked}
@@ -22,15 +23,15 @@ use Rattle.am_server.specs.declared.writing.ServeEnd.TheVariants as end
 
 -- No line of the script is refused: not after any beginning of the journal that has the events of the lines before it,
 -- and none from it on.
-abbrev pub NoneRefused : ℕ → List ℕ → List Event → Type 0
+abbrev pub NoneRefused : ℕ → List ℕ → Journal → Type 0
 NoneRefused clients script journal =
     (before after : List Asked) (line : Asked) (fault : LineFault) (seen : List Event)
-    → asked_by_script script ≡ before ++ line ∷ after → IsPrefix seen journal
+    → asked_by_script script ≡ before ++ line ∷ after → IsPrefix seen journal.events
     → filter is_scripted seen ≡ asked_events before
-    → ¬ IsRefused enabled answer_at clients seen line fault
+    → ¬ IsRefused (enabled_in journal.format) (answers_in journal.format) clients seen line fault
 
 -- the journal's lines, and then the report of its run
-abbrev pub whole_text : List Event → List ℕ
+abbrev pub whole_text : Journal → List ℕ
 whole_text journal = journal_text journal ++ report_text (view_of journal)
 
 module _ {G L S K : Type 0} where
@@ -40,7 +41,7 @@ module _ {G L S K : Type 0} where
 
   -- The script is within its limit, no line of it is refused, and no count of faults rises.
   pub record NothingFails (m : Outside G L S K) (clients : ℕ) (script : List ℕ) (i : Given) (o : Seen)
-      (journal : List Event) (served : List (Served G L S K)) : Type 0 where
+      (journal : Journal) (served : List (Served G L S K)) : Type 0 where
     pub fits : length script ≤ input_limit
     pub none_refused : NoneRefused clients script journal
     pub input : ¬ HasRisen i.input.before.faults i.input.now.faults
@@ -49,7 +50,7 @@ module _ {G L S K : Type 0} where
     pub slots : AllByRecursion (IsCalm m) served
 
   -- then all is done, and the whole text written, or memory runs out
-  abbrev pub IsComplete : Outside G L S K → ℕ → List ℕ → Given → Seen → List Event → List (Served G L S K)
+  abbrev pub IsComplete : Outside G L S K → ℕ → List ℕ → Given → Seen → Journal → List (Served G L S K)
       → ServeEnd → Type 0
   IsComplete m clients script i o journal served e =
       NothingFails m clients script i o journal served → ((e ≡ end.Done) × IsWhole o (whole_text journal))

@@ -8,12 +8,13 @@ use Rattle.am_base.specs.Seen.{Given, HostSeen, Seen}
 use Rattle.am_base.specs.Written.{IsWhole, IsCut, IsPut}
 use Rattle.am_journal.specs.declared.ending.Ending.{Ending}
 use Rattle.am_journal.specs.declared.ending.Ending.TheVariants as ending
-use Rattle.am_journal.specs.declared.event.Event.{Event}
+use Rattle.am_journal.specs.declared.event.Format.TheVariants.{Two}
+use Rattle.am_journal.specs.declared.event.Journal.{Journal}
+use Rattle.am_journal.specs.Journal.{journal_in}
 use Rattle.am_journal.specs.Lawful.{IsInRange}
 use Rattle.am_journal.specs.Texts.{refused_text}
-use Rattle.am_counter.specs.Played.{IsPlayed}
-use Rattle.acme_core.specs.Asks.{answer_at}
-use Rattle.acme_core.specs.Run.{enabled, output_at}
+use Rattle.acme_core.specs.Asks.{answers_in}
+use Rattle.acme_core.specs.Run.{enabled_in, output_in, AreEnabled}
 use Rattle.am_serve.specs.declared.scripting.ScriptEnd.{ScriptEnd}
 use Rattle.am_serve.specs.declared.scripting.ScriptEnd.TheVariants as script
 use Rattle.am_serve.specs.declared.writing.WriteEnd.TheVariants as write
@@ -69,22 +70,22 @@ module _ {G L S K : Type 0} where
 
   -- The slots were served, and what came of it was written: whole, but where the output has failed, or memory ran out
   -- for a line.
-  abbrev pub Writes : List Event → List (Slot G L S K) → ScriptEnd → Seen → ServeEnd → Type 0
+  abbrev pub Writes : Journal → List (Slot G L S K) → ScriptEnd → Seen → ServeEnd → Type 0
   Writes journal slots done o e =
       ((e ≡ end_at slots done false) × IsWhole o (served_text journal slots done))
       ⊎ ((e ≡ end_at slots done true) × IsCut o (served_text journal slots done))
       ⊎ ((e ≡ end.NoMemory) × IsLeft o journal slots)
 
 -- what an output got, nothing was done, and no slot is told of
-pub record IsIdle {G L S K : Type 0} (o : Seen) (journal : List Event) (served : List (Served G L S K)) : Type 0 where
+pub record IsIdle {G L S K : Type 0} (o : Seen) (journal : Journal) (served : List (Served G L S K)) : Type 0 where
   pub silent : o.now.bytes ≡ o.before.bytes
-  pub empty : journal ≡ []
+  pub empty : journal.events ≡ []
   pub none : served ≡ []
 
 -- a script that is too long is refused whole
-pub record IsTooLong {G L S K : Type 0} (o : Seen) (journal : List Event) (served : List (Served G L S K))
+pub record IsTooLong {G L S K : Type 0} (o : Seen) (journal : Journal) (served : List (Served G L S K))
     (e : ServeEnd) : Type 0 where
-  pub empty : journal ≡ []
+  pub empty : journal ≡ journal_in Two []
   pub none : served ≡ []
   pub put : ((e ≡ end.Script) × IsPut o (refused_text 0 (codes "input")))
       ⊎ ((e ≡ end.NoMemory) × (o.now.bytes ≡ o.before.bytes))
@@ -101,33 +102,36 @@ AllDone end.WriteFault = Unit {0}
 -- A script was served: its slots, the script's end, and one journal that has just their entries. Where all was done,
 -- each sink that has not failed got all replies. A connection with sound objects ends well.
 pub record Serves {G L S K : Type 0} (m : Outside G L S K) (path : List ℕ) (clients : ℕ) (lines : List ℕ) (h : HostSeen)
-    (o : Seen) (journal : List Event) (served : List (Served G L S K)) (e : ServeEnd) : Type 0 where
+    (o : Seen) (journal : Journal) (served : List (Served G L S K)) (e : ServeEnd) : Type 0 where
   pub slots : List (Slot G L S K)
   pub done : ScriptEnd
   pub count : length slots ≡ clients
-  pub played : IsPlayed enabled journal
-  pub in_range : AllByRecursion IsInRange journal
-  pub run : IsRun m enabled output_at answer_at clients lines journal slots done
+  pub format : journal.format ≡ Two
+  pub played : AreEnabled journal
+  pub in_range : AllByRecursion IsInRange journal.events
+  pub run : IsRun m (enabled_in journal.format) (output_in journal.format) (answers_in journal.format) clients lines
+      journal.events slots done
   pub tells : EachTells m path 0 slots
   pub risen : HasRisenBy (unbound slots) h.before.faults h.now.faults
   pub given : HasGiven clients (unbound slots) h.before.given h.now.given
-  pub told : served ≡ served_from journal 0 slots
+  pub told : served ≡ served_from journal.events 0 slots
   pub writes : Writes journal slots done o e
   pub replied : AllDone e → AllByRecursion (GotAll m journal) served
   pub sound : AllByRecursion (EndsWell m journal) served
 
 -- what came of a script of lawful length: it was served, or there was no memory to begin
-abbrev pub ServesLines : {G L S K : Type 0} → Outside G L S K → List ℕ → ℕ → List ℕ → HostSeen → Seen → List Event
+abbrev pub ServesLines : {G L S K : Type 0} → Outside G L S K → List ℕ → ℕ → List ℕ → HostSeen → Seen → Journal
     → List (Served G L S K) → ServeEnd → Type 0
 ServesLines m path clients lines h o journal served e =
     Serves m path clients lines h o journal served e ⊎ ((e ≡ end.NoMemory) × IsIdle o journal served)
 
 -- How serving ends: the input could not be read, or was too long, or there was no memory for it, or its lines were
 -- served.
-abbrev pub SaysServe : {G L S K : Type 0} → Outside G L S K → List ℕ → ℕ → Given → Seen → List Event
+abbrev pub SaysServe : {G L S K : Type 0} → Outside G L S K → List ℕ → ℕ → Given → Seen → Journal
     → List (Served G L S K) → ServeEnd → Type 0
 SaysServe m path clients i o journal served e =
-    ((e ≡ end.ReadFault) × HasRisen i.input.before.faults i.input.now.faults × IsIdle o journal served)
+    ((e ≡ end.ReadFault) × HasRisen i.input.before.faults i.input.now.faults × IsIdle o journal served
+    × (journal.format ≡ Two))
     ⊎ (IfSome i.input.before.bytes (λ bytes. input_limit < length bytes) × IsTooLong o journal served e)
     ⊎ ((e ≡ end.NoMemory) × IsIdle o journal served)
     ⊎ ((lines : List ℕ) × AreTold i.input.before.bytes lines × (length lines ≤ input_limit)

@@ -2,8 +2,8 @@
 use Rattle.std.specs.Prelude.{◌≡◌, ◌⊎◌, ℕ, List, ◌++◌, take}
 use Rattle.am_base.specs.Seen.{Seen}
 use Rattle.am_base.specs.Written.{IsWhole, IsCut}
-use Rattle.am_journal.specs.declared.event.Event.{Event}
-use Rattle.am_journal.specs.Journal.{journal_text}
+use Rattle.am_journal.specs.declared.event.Journal.{Journal}
+use Rattle.am_journal.specs.Journal.{journal_in, journal_text}
 use Rattle.am_journal.specs.Report.{report_text}
 use Rattle.acme_core.specs.Views.{view_of}
 use Rattle.am_serve.specs.declared.scripting.ScriptEnd.{ScriptEnd}
@@ -19,14 +19,14 @@ StopsIn stop.Failed o text front = IsCut o text
 StopsIn stop.NoMemory o text front = (n : ℕ) × IsWhole o (front n)
 
 module _ {G L S K : Type 0} where
-  -- An output got the lines of a front of the journal, or all of them, the report, and the lines `host` of a front of
-  -- the slots.
-  abbrev pub IsLeft : Seen → List Event → List (Slot G L S K) → Type 0
+  -- An output got the heading and the lines of a front of the journal, or all of them, the report, and the lines `host`
+  -- of a front of the slots.
+  abbrev pub IsLeft : Seen → Journal → List (Slot G L S K) → Type 0
   IsLeft o journal slots =
-      ((n : ℕ) × IsWhole o (journal_text (take n journal)))
+      ((n : ℕ) × IsWhole o (journal_text (journal_in journal.format (take n journal.events))))
       ⊎ ((n : ℕ) × IsWhole o (journal_text journal ++ report_text (view_of journal) ++ host_text 0 (take n slots)))
 
   -- where the whole text stops
-  abbrev pub StopsAt : Stop → Seen → List Event → List (Slot G L S K) → ScriptEnd → Type 0
+  abbrev pub StopsAt : Stop → Seen → Journal → List (Slot G L S K) → ScriptEnd → Type 0
   StopsAt stop.Failed o journal slots end = IsCut o (served_text journal slots end)
   StopsAt stop.NoMemory o journal slots end = IsLeft o journal slots

@@ -1,7 +1,7 @@
 -- What serving writes.
 use Rattle.std.specs.Prelude.{ℕ, ◌+◌, Bool, true, false, List, [], ◌∷◌, ◌++◌, codes, if◌then◌else◌}
 use Rattle.std.specs.Fmt.{decimal}
-use Rattle.am_journal.specs.declared.event.Event.{Event}
+use Rattle.am_journal.specs.declared.event.Journal.{Journal}
 use Rattle.am_journal.specs.Journal.{journal_text}
 use Rattle.am_journal.specs.Report.{report_text}
 use Rattle.am_journal.specs.Texts.{refused_text}
@@ -39,6 +39,6 @@ module _ {G L S K : Type 0} where
   host_text n (s ∷ slots) = (if has_failed s then host_line n else []) ++ host_text (n + 1) slots
 
   -- the whole text: the journal's lines, the report of its run, the lines `host`, and the line `refused`
-  abbrev pub served_text : List Event → List (Slot G L S K) → ScriptEnd → List ℕ
+  abbrev pub served_text : Journal → List (Slot G L S K) → ScriptEnd → List ℕ
   served_text journal slots end = journal_text journal ++ report_text (view_of journal) ++ host_text 0 slots
       ++ refusal_text end

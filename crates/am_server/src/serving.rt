@@ -9,7 +9,7 @@ ghost use Rattle.am_server.specs.Ends.{ServesLines, IsTooLong, SaysServe};
 
 use crate::writing::{ServeEnd, Serving, finish, idle};
 use am_base::{Gate, Host, INPUT_LIMIT, Link, ReadStop, Sink, Source, read_to_end, write_all};
-use am_desk::Desk;
+use am_desk::ServingDesk;
 use am_journal::refused_line;
 use am_slots::{Service, Site, serve_slots};
 use am_text::NoMemory;
@@ -46,7 +46,7 @@ fn serve_lines<O: Sink, H: Host, R: Threads + Wait + Sync>(
     let Ok(served) = Vec::with_capacity(alloc, service.clients as usize) else {
         return idle(alloc, ServeEnd::NoMemory);
     };
-    let Ok((desk, mut seat)) = Desk::new(alloc, 2 * u64::from(service.clients) + 1) else {
+    let Ok((desk, mut seat)) = ServingDesk::new(alloc, 2 * u64::from(service.clients) + 1) else {
         return idle(alloc, ServeEnd::NoMemory);
     };
     // An ended connection is replied nothing more, and its messages don't depend on the pieces that were read.

@@ -4,7 +4,7 @@ ghost use Rattle.std.specs.Prelude.{◌≡◌, ◌≤◌, ◌<◌, ◌^◌, [], 
 ghost use Rattle.std.specs.List.{AllByRecursion};
 ghost use Rattle.am_base.specs.Seen.{seen};
 ghost use Rattle.am_base.specs.Written.{IsWhole};
-ghost use Rattle.am_journal.specs.Journal.{ended_line, journal_text};
+ghost use Rattle.am_journal.specs.Journal.{ended_line, events_text, journal_in, journal_text};
 ghost use Rattle.am_journal.specs.Lawful.{IsLawful};
 ghost use Rattle.am_journal.specs.Report.{report_text};
 ghost use Rattle.acme_core.specs.Run.{settled};
@@ -14,7 +14,7 @@ ghost use Rattle.am_server.specs.Texts.{has_failed, host_line, host_text, refusa
 
 use acme_core::{Core, Event};
 use am_base::{Failed, Sink, write_all};
-use am_journal::{refused_line, report, write_line};
+use am_journal::{heading, refused_line, report, write_line};
 use am_serve::{ScriptEnd, fault_word};
 use am_slots::Slot;
 use am_text::{Bytes, Items, NoMemory, decimal};
@@ -63,17 +63,32 @@ fn put_event<O: Sink>(alloc: Global, output: &mut O, event: &Event) -> Result<()
     }
 }
 
-fn put_journal<O: Sink>(alloc: Global, output: &mut O, journal: &[Event]) -> Result<(), Stop>
-    requires { AllByRecursion IsLawful journal.now }
-    ensures ok { OnOk result (IsWhole (seen (O.told output.old) (O.told output.new)) (journal_text journal.now)) }
+fn put_events<O: Sink>(alloc: Global, output: &mut O, events: &[Event]) -> Result<(), Stop>
+    requires { AllByRecursion IsLawful events.now }
+    ensures ok { OnOk result (IsWhole (seen (O.told output.old) (O.told output.new)) (events_text events.now)) }
     ensures later { (O.told output.old).faults ≤ (O.told output.new).faults }
     ensures err { IfErr result (λ e. StopsIn e (seen (O.told output.old) (O.told output.new))
-        (journal_text journal.now) (λ n. journal_text (take n journal.now))) }
+        (events_text events.now) (λ n. events_text (take n events.now))) }
 {
-    for event in journal {
+    for event in events {
         put_event(alloc, output, event)?;
     }
     Ok(())
+}
+
+// The heading, and then a line for each event.
+fn put_journal<O: Sink>(alloc: Global, output: &mut O, core: &Core) -> Result<(), Stop>
+    requires { AllByRecursion IsLawful core.now.journal.events }
+    ensures ok { OnOk result (IsWhole (seen (O.told output.old) (O.told output.new)) (journal_text core.now.journal)) }
+    ensures later { (O.told output.old).faults ≤ (O.told output.new).faults }
+    ensures err { IfErr result (λ e. StopsIn e (seen (O.told output.old) (O.told output.new))
+        (journal_text core.now.journal)
+        (λ n. journal_text (journal_in core.now.journal.format (take n core.now.journal.events)))) }
+{
+    match write_all(output, heading(core.format())) {
+        Ok(()) => put_events(alloc, output, core.events()),
+        Err(Failed) => Err(Stop::Failed),
+    }
 }
 
 fn report_of(alloc: Global, core: &Core) -> Result<Bytes, NoMemory>
@@ -183,8 +198,8 @@ fn put_refusal<O: Sink>(alloc: Global, output: &mut O, end: ScriptEnd) -> Result
     }
 }
 
-/// Writes the journal's lines one by one, the report, a line `host` for each slot that has failed, and a line `refused`
-/// where a line of the script is. At want of memory what stands before stays written.
+/// Writes the heading and the journal's lines one by one, the report, a line `host` for each slot that has failed, and
+/// a line `refused` where a line of the script is. At want of memory what stands before stays written.
 pub(crate) fn put_text<G, L, S, K, O: Sink>(
     alloc: Global,
     core: &Core,
@@ -193,13 +208,13 @@ pub(crate) fn put_text<G, L, S, K, O: Sink>(
     output: &mut O,
 ) -> Result<(), Stop>
     requires settled { core.now ≡ settled core.now.journal }
-    requires lawful { AllByRecursion IsLawful core.now.journal }
+    requires lawful { AllByRecursion IsLawful core.now.journal.events }
     ensures ok { OnOk result (IsWhole (seen (O.told output.old) (O.told output.new))
         (served_text core.now.journal slots.now end)) }
     ensures err { IfErr result (λ e. StopsAt e (seen (O.told output.old) (O.told output.new)) core.now.journal slots.now
         end) }
 {
-    put_journal(alloc, output, core.journal())?;
+    put_journal(alloc, output, core)?;
     put_report(alloc, output, core)?;
     put_hosts(alloc, output, slots)?;
     put_refusal(alloc, output, end)?;

@@ -3,6 +3,8 @@
 ghost use Rattle.std.specs.Prelude.{◌≡◌, ◌<◌, ◌≤◌, ◌^◌, [], length, vec_capacity};
 ghost use Rattle.std.specs.List.{AllByRecursion, list_any};
 ghost use Rattle.am_base.specs.Seen.{seen};
+ghost use Rattle.am_journal.specs.declared.event.Format.TheVariants.{Two};
+ghost use Rattle.am_journal.specs.Journal.{journal_in};
 ghost use Rattle.am_journal.specs.Lawful.{IsLawful};
 ghost use Rattle.acme_core.specs.Run.{settled, IsPossible};
 ghost use Rattle.am_server.specs.Ends.{ended_otherwise, wants_untold, end_done, end_at, Writes};
@@ -11,7 +13,7 @@ ghost use Rattle.am_server.specs.Texts.{has_failed};
 
 use crate::served::{Served, served_all};
 use crate::texts::{Stop, has_failed, put_text};
-use acme_core::{Core, Journal};
+use acme_core::{Core, Format, Journal};
 use am_base::Sink;
 use am_journal::Ending;
 use am_serve::{ScriptEnd, WriteEnd};
@@ -36,7 +38,7 @@ pub enum ServeEnd {
     WriteFault,
 }
 
-/// How serving ended, the events that were done, and the connections that were served.
+/// How serving ended, the journal of the events that were done, and the connections that were served.
 #[derive(Drop)]
 pub struct Serving<G, L, S, K> {
     pub end: ServeEnd,
@@ -129,7 +131,7 @@ fn write_served<G, L, S, K, O: Sink>(
     output: &mut O,
 ) -> ServeEnd
     requires settled { core.now ≡ settled core.now.journal }
-    requires lawful { AllByRecursion IsLawful core.now.journal }
+    requires lawful { AllByRecursion IsLawful core.now.journal.events }
     requires few { length slots.now < 2 ^ 32 }
     ensures { Writes core.now.journal slots.now script
         (seen (O.told output.old) (O.told output.new)) result }
@@ -144,13 +146,18 @@ fn write_served<G, L, S, K, O: Sink>(
 // Nothing was done, or nothing can be told of it.
 pub(crate) fn idle<G, L, S, K>(alloc: Global, end: ServeEnd) -> Serving<G, L, S, K>
     ensures end { result.end ≡ end }
-    ensures journal { result.journal ≡ [] }
+    ensures journal { result.journal ≡ journal_in Two [] }
+    ensures empty { result.journal.events ≡ [] }
+    ensures format { result.journal.format ≡ Two }
     ensures possible { IsPossible result.journal }
     ensures served { result.served ≡ [] }
 {
     Serving {
         end,
-        journal: Items::new(alloc),
+        journal: Journal {
+            format: Format::Two,
+            events: Items::new(alloc),
+        },
         served: Items::new(alloc),
     }
 }
@@ -165,13 +172,13 @@ pub(crate) fn finish<G: Drop, L: Drop, S: Drop, K: Drop, O: Sink>(
     output: &mut O,
 ) -> Serving<G, L, S, K>
     requires settled { core ≡ settled core.journal }
-    requires lawful { AllByRecursion IsLawful core.journal }
+    requires lawful { AllByRecursion IsLawful core.journal.events }
     requires few { length slots < 2 ^ 32 }
     requires room { length slots ≤ vec_capacity served }
     requires empty { served.items ≡ [] }
     ensures journal { result.journal ≡ core.journal }
     ensures possible { IsPossible result.journal }
-    ensures served { result.served ≡ served_from core.journal 0 slots }
+    ensures served { result.served ≡ served_from core.journal.events 0 slots }
     ensures writes { Writes core.journal slots script
         (seen (O.told output.old) (O.told output.new)) result.end }
 {
@@ -179,7 +186,7 @@ pub(crate) fn finish<G: Drop, L: Drop, S: Drop, K: Drop, O: Sink>(
     core.events_were_possible();
     Serving {
         end,
-        served: served_all(core.journal(), slots, served),
+        served: served_all(core.events(), slots, served),
         journal: core.into_journal(),
     }
 }

@@ -4,13 +4,13 @@ use Rattle.std.proofs.Common.{subst, codes}
 use Rattle.std.specs.List.{AllByRecursion}
 use Rattle.am_text.specs.Lines.{lines_of}
 use Rattle.am_journal.specs.declared.event.Event.{Event}
-use Rattle.am_journal.specs.Journal.{is_report}
+use Rattle.am_journal.specs.Journal.{behind_heading, is_report}
 use Rattle.am_text.specs.Front.{after_front}
 use Rattle.am_journal.specs.Line.{event_of, window_at}
 use Rattle.am_counter.specs.Known.{Known}
 use Rattle.am_serve.specs.Gained.{Rule, Answers, plain}
 use Rattle.am_serve.specs.Script.{is_scripted, asks_event, asks_window, awaits_or, asked_by, then_asked, asked_by_lines}
-use Rattle.am_serve.specs.Script.{asked_by_script, asked_events, Passed, EndsScript}
+use Rattle.am_serve.specs.Script.{asked_events, Passed, EndsScript}
 use Rattle.am_serve.specs.declared.asked.Asked.{Asked}
 use Rattle.am_serve.specs.declared.asked.Asked.TheVariants.{Does, Awaits, Ends, Faulty}
 use Rattle.am_serve.specs.declared.scripting.ScriptEnd.{ScriptEnd}
@@ -93,13 +93,13 @@ passed_scripted enabled answer lines w are p =
 
 -- what a script's seat has added are events of windows
 pub script_scripted : (enabled : Rule) (answer : Answers) (clients : ℕ) (script : List ℕ) (e : ScriptEnd) (w : Known)
-    → EndsScript enabled answer clients unseen (asked_by_script script) e w
+    → EndsScript enabled answer clients unseen script e w
     → AllByRecursion (λ (x : ℕ × Event). is_scripted x.1 ≡ true) w.mine
 script_scripted enabled answer clients script end.Done w h = passed_scripted enabled answer _ w
-    (lines_scripted (lines_of script)) h
+    (lines_scripted (behind_heading (lines_of script))) h
 script_scripted enabled answer clients script (end.Refused line why) w h =
     passed_scripted enabled answer h.before w (front_scripted h.before _
-    (subst AreScripted h.split (lines_scripted (lines_of script)))) h.passed
+    (subst AreScripted h.split (lines_scripted (behind_heading (lines_of script))))) h.passed
 script_scripted enabled answer clients script end.NoMemory w h =
     passed_scripted enabled answer h.0 w (front_scripted h.0 h.1 (subst AreScripted h.2
-    (lines_scripted (lines_of script)))) h.3
+    (lines_scripted (behind_heading (lines_of script))))) h.3

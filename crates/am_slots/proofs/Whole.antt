@@ -5,7 +5,7 @@ use Rattle.std.proofs.lemmas.List.{length-map}
 use Rattle.am_journal.specs.declared.event.Event.{Event}
 use Rattle.am_counter.specs.Known.{Known, lists_of}
 use Rattle.am_serve.specs.Gained.{Rule, Answers, Gains}
-use Rattle.am_serve.specs.Script.{EndsScript, asked_by_script}
+use Rattle.am_serve.specs.Script.{EndsScript}
 use Rattle.am_serve.specs.declared.scripting.ScriptEnd.{ScriptEnd}
 use Rattle.am_slots.specs.Binding.{HaveNames}
 use Rattle.am_slots.specs.Serving.{EachTells, ServesAll, unseen}
@@ -63,12 +63,12 @@ module _ {T G L S K : Type 0} (Fits : T → Type 0) (known : T → Known) (o : O
         ++ flat_map (λ (y : Worker T G L S K). lists_of (known y.seat)) ys) (gains.ended ∙ hired.ended)
 
     pub all_served : (clients : ℕ) (script : List ℕ) (end : ScriptEnd) → u.seen ≡ []
-        → EndsScript enabled answer clients u (asked_by_script script) end w
+        → EndsScript enabled answer clients u script end w
         → ServesAll o enabled unsent answer clients script slots end x
     all_served clients script end seen ends =
         let P : List (Slot G L S K) → Type 0 = λ l. EachHas o enabled unsent answer 0 x.seen l x.ended in
         let Q : List (List (ℕ × Event)) → Type 0 = λ l. EachHas o enabled unsent answer 0 x.seen (slots_of ys) l in
-        let R : Known → Type 0 = λ k. EndsScript enabled answer clients k (asked_by_script script) end w in
+        let R : Known → Type 0 = λ k. EndsScript enabled answer clients k script end w in
         record {
           each = subst P (sym after) (subst Q (sym ended_is) (each_has Fits known o enabled unsent answer xs ys h x.seen
               takes.each));

@@ -4,7 +4,7 @@ use Rattle.am_journal.specs.declared.event.Event.{Event}
 use Rattle.am_counter.specs.Known.{Known}
 use Rattle.am_counter.specs.Played.{IsPrefix}
 use Rattle.am_serve.specs.Gained.{Rule, Answers, plain}
-use Rattle.am_serve.specs.Script.{EndsScript, asked_by_script, is_scripted}
+use Rattle.am_serve.specs.Script.{EndsScript, is_scripted}
 use Rattle.am_serve.specs.declared.scripting.ScriptEnd.{ScriptEnd}
 use Rattle.am_slots.specs.Connection.{IsSilent}
 use Rattle.am_slots.specs.Slots.{Outside, IsOf, EachHas, HasName, Tells}
@@ -34,14 +34,14 @@ pub record ServesAll {G L S K : Type 0} (o : Outside G L S K) (enabled : Rule) (
   pub known : Known
   pub seen : IsPrefix known.seen w.seen
   pub mine : w.mine ≡ known.mine
-  pub did : EndsScript enabled answer clients unseen (asked_by_script script) end known
+  pub did : EndsScript enabled answer clients unseen script end known
 
 -- A script was done so, and the journal's events of windows are those of its lines.
 pub record DidScript (enabled : Rule) (answer : Answers) (clients : ℕ) (script : List ℕ) (journal : List Event)
     (end : ScriptEnd) : Type 0 where
   pub known : Known
   pub seen : IsPrefix known.seen journal
-  pub did : EndsScript enabled answer clients unseen (asked_by_script script) end known
+  pub did : EndsScript enabled answer clients unseen script end known
   pub events : filter is_scripted journal ≡ plain known.mine
 
 -- A journal of slots that were served and a script that was done, and of nothing else.

@@ -3,7 +3,7 @@
 ghost use Rattle.std.specs.Prelude.{◌≡◌, ℕ, ◌<◌, ◌≤◌, ◌*◌, ◌+◌, List, [], All, IfOk, OnErr, length};
 ghost use Rattle.std.specs.Fork.{AcceptsEach};
 ghost use Rattle.am_serve.specs.Gained.{Gains, gained};
-ghost use Rattle.am_serve.specs.Script.{EndsScript, asked_by_script};
+ghost use Rattle.am_serve.specs.Script.{EndsScript};
 ghost use Rattle.am_journal.specs.Limits.{connection_count};
 ghost use Rattle.am_slots.specs.Binding.{AreWaiting, HaveNames};
 ghost use Rattle.am_slots.specs.Slots.{outside, unbound, HasGiven, HasRisenBy};
@@ -61,7 +61,7 @@ fn serve_beside<
     ensures fits { C.fits script.now.desk.now seat.new }
     ensures gains { Gains (C.known seat.old) (gained (C.known seat.old) (C.known seat.new)) (C.known seat.new) }
     ensures ends { EndsScript C.enabled C.answer script.now.clients (C.known seat.old)
-        (asked_by_script script.now.lines.now) result (C.known seat.new) }
+        script.now.lines.now result (C.known seat.new) }
     ensures each { ServesEach F.Fn serve.now workers.old workers.new }
 {
     // Where no thread can be made the script comes last: it may wait for connections.
@@ -102,7 +102,7 @@ fn serve_workers<
     ensures fits { C.fits script.now.desk.now seat.new }
     ensures gains { Gains (C.known seat.old) (gained (C.known seat.old) (C.known seat.new)) (C.known seat.new) }
     ensures ends { EndsScript C.enabled C.answer script.now.clients (C.known seat.old)
-        (asked_by_script script.now.lines.now) result (C.known seat.new) }
+        script.now.lines.now result (C.known seat.new) }
     ensures works { EachWorks (C.fits script.now.desk.now) C.known (outside G.told L.told S.told K.told)
         C.enabled C.unsent C.answer workers.old workers.new }
 {

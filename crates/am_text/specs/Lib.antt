@@ -1,11 +1,13 @@
 pub mod Ascii
 pub mod Column
 pub mod Escapes
+pub mod Fields
 pub mod Front
 pub mod Lines
 pub mod Number
 pub mod Part
 pub mod Pieces
+pub mod Requests
 pub mod Room
 pub mod Twice
 pub mod Utf8

@@ -32,3 +32,31 @@ pub struct Job {
 
 /// A list of requests.
 pub type Jobs = Items<Job>;
+
+/// What became of a request, by the file `jobs`. Entries are those of the journal.
+#[derive(Clone, Copy, Debug, PartialEq, Eq)]
+pub enum JobLife {
+    /// No opening has read it.
+    Waiting,
+    /// An opening read it, at this entry.
+    Taken {
+        opening: u32,
+        at: u64,
+    },
+    /// That opening answered it at a later entry: it was done, or it failed.
+    Answered {
+        opening: u32,
+        at: u64,
+        answer: u64,
+        good: bool,
+    },
+    /// That opening closed before it answered.
+    Lost {
+        opening: u32,
+        at: u64,
+        close: u64,
+    },
+}
+
+/// What became of each request, by number.
+pub type JobLives = Items<JobLife>;

@@ -1,5 +1,5 @@
 -- What the report tells of the editor as it stands.
-use Rattle.std.specs.Prelude.{ℕ, ◌+◌, List, [], ◌∷◌, Option, Some, None}
+use Rattle.std.specs.Prelude.{ℕ, ◌+◌, List, [], ◌∷◌, Option, Some, None, slice_index_or}
 use Rattle.am_journal.specs.declared.view.ConnView.{ConnView}
 use Rattle.am_journal.specs.declared.view.WindowView.{WindowView}
 use Rattle.am_journal.specs.declared.view.View.{View}
@@ -8,18 +8,22 @@ use Rattle.core_windows.specs.Windows.{Window}
 use Rattle.core_parts.specs.declared.connection.Connection.{Connection}
 use Rattle.core_parts.specs.declared.connection.Connection.TheVariants.{Undialed, Live, Ended}
 use Rattle.event_book.specs.WindowFiles.{ledger_of}
-use Rattle.core_parts.specs.States.{Present}
+use Rattle.core_parts.specs.States.{Present, format_of}
+
+-- the user of a connection
+abbrev pub user_at : List (List ℕ) → ℕ → List ℕ
+user_at users conn = slice_index_or users conn []
 
 -- what the report tells of a connection
-abbrev pub conn_view : ℕ → Option Ending → ConnView
-conn_view c ending = record { conn = c; ending = ending }
+abbrev pub conn_view : List (List ℕ) → ℕ → Option Ending → ConnView
+conn_view users c ending = record { conn = c; ending = ending; user = user_at users c }
 
 -- the dialled connections, of which the first has this number
-unfoldable pub conn_views : ℕ → List Connection → List ConnView
-conn_views c [] = []
-conn_views c (Undialed ∷ cs) = conn_views (c + 1) cs
-conn_views c (Live ∷ cs) = conn_view c None ∷ conn_views (c + 1) cs
-conn_views c (Ended why ∷ cs) = conn_view c (Some why) ∷ conn_views (c + 1) cs
+unfoldable pub conn_views : List (List ℕ) → ℕ → List Connection → List ConnView
+conn_views users c [] = []
+conn_views users c (Undialed ∷ cs) = conn_views users (c + 1) cs
+conn_views users c (Live ∷ cs) = conn_view users c None ∷ conn_views users (c + 1) cs
+conn_views users c (Ended why ∷ cs) = conn_view users c (Some why) ∷ conn_views users (c + 1) cs
 
 -- what the report tells of a window
 abbrev pub window_view : ℕ → Window → WindowView
@@ -40,8 +44,9 @@ window_views w (Some window ∷ ws) = window_view w window ∷ window_views (w +
 -- what the report tells
 abbrev pub view_at : ℕ → Present → View
 view_at entries s = record {
+  format = format_of s;
   entries = entries;
-  conns = conn_views 0 s.connections;
+  conns = conn_views s.users 0 s.connections;
   windows = window_views 1 s.scene.windows;
   items = ledger_of s.scene.book.files;
   jobs = s.scene.jobs;

@@ -4,18 +4,37 @@ ghost use Rattle.std.specs.Prelude.{◌≡◌, ◌<◌, ◌+◌, ◌^◌, IfOk, 
 ghost use Rattle.core_windows.specs.Panes.{windows_of, window_of};
 ghost use Rattle.core_parts.specs.Parts.{present_of, AreSteady};
 ghost use Rattle.am_journal.specs.Limits.{connection_count};
-ghost use Rattle.core_closing.specs.Views.{conn_views, window_views, window_view, view_at};
+ghost use Rattle.core_closing.specs.Views.{user_at, conn_view, conn_views, window_views, window_view, view_at};
 
-use am_journal::{ConnView, ConnViews, ItemViews, View, WindowView, WindowViews};
-use am_text::{Items, Job, Jobs, NoMemory};
+use am_journal::{ConnView, ConnViews, Ending, ItemViews, View, WindowView, WindowViews};
+use am_text::{Bytes, Items, Job, Jobs, NoMemory};
 use core_parts::{Connection, Parts};
 use core_windows::Pane;
 use std::alloc::Global;
 
+fn conn_view(
+    alloc: Global,
+    users: &[Bytes],
+    conn: u32,
+    ending: Option<Ending>,
+) -> Result<ConnView, NoMemory>
+    ensures { IfOk result (λ view. view ≡ conn_view users.now conn ending) }
+{
+    let user = match users.get(conn as usize) {
+        Some(user) => Items::copied(alloc, user.as_slice())?,
+        None => Items::new(alloc),
+    };
+    Ok(ConnView { conn, ending, user })
+}
+
 #[tactic(auto, using(crate::proofs::Viewed::viewing), unfolding(crate::specs::Views::conn_views))]
-fn conn_views(alloc: Global, connections: &[Connection]) -> Result<ConnViews, NoMemory>
+fn conn_views(
+    alloc: Global,
+    users: &[Bytes],
+    connections: &[Connection],
+) -> Result<ConnViews, NoMemory>
     requires { length connections.now < 2 ^ 32 }
-    ensures { IfOk result (λ views. views ≡ conn_views 0 connections.now) }
+    ensures { IfOk result (λ views. views ≡ conn_views users.now 0 connections.now) }
 {
     let mut views = Items::new(alloc);
     let mut rest = connections;
@@ -23,11 +42,8 @@ fn conn_views(alloc: Global, connections: &[Connection]) -> Result<ConnViews, No
     while let [connection, after @ ..] = rest {
         match connection {
             Connection::Undialed => {}
-            Connection::Live => views.push(ConnView { conn, ending: None })?,
-            Connection::Ended(why) => views.push(ConnView {
-                conn,
-                ending: Some(*why),
-            })?,
+            Connection::Live => views.push(conn_view(alloc, users, conn, None)?)?,
+            Connection::Ended(why) => views.push(conn_view(alloc, users, conn, Some(*why))?)?,
         }
         rest = after;
         conn += 1;
@@ -102,8 +118,9 @@ pub fn view_of(
     ensures { IfOk result (λ view. view ≡ record (view_at entries (present_of parts.now)) { items = items }) }
 {
     Ok(View {
+        format: parts.sessions.format(),
         entries,
-        conns: conn_views(alloc, &parts.connections)?,
+        conns: conn_views(alloc, &parts.users, &parts.connections)?,
         windows: window_views(
             alloc,
             parts.scene.windows.panes(),

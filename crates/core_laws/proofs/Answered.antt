@@ -21,7 +21,6 @@ use Rattle.win_events.specs.declared.item.Origin.{Origin}
 use Rattle.event_book.specs.BookState.{BookState, is_living, read_waits, asked_of, piece_for}
 use Rattle.am_journal.specs.declared.event.Event.{Event}
 use Rattle.am_journal.specs.declared.event.Event.TheVariants as event
-use Rattle.am_counter.specs.Played.{ArePlayed, IsPlayed}
 use Rattle.core_fids.specs.declared.effect.Answer.{Answer}
 use Rattle.core_fids.specs.declared.effect.Answer.TheVariants.{Says, Reads, ReadsPort}
 use Rattle.core_fids.specs.declared.effect.Demand.{Demand}
@@ -56,7 +55,7 @@ use Rattle.core_parts.specs.Doing.{Doing}
 use Rattle.core_intents.specs.Intents.{reaction_at}
 use Rattle.acme_core.specs.Laws.{HasAnswer, EachIsAnswered}
 use Rattle.core_intents.specs.Origins.{message_origin}
-use Rattle.acme_core.specs.Run.{step, run, present_after, enabled}
+use Rattle.acme_core.specs.Run.{step, run, present_after, enabled, AreEnabled}
 use Rattle.core_steps.specs.PortReads.{port_read_in, if_port_said, asked_said, asked_ports}
 use Rattle.core_steps.specs.Stages.{response, asker_of, if_said, answer_said, answer_book, acted, with_fid, read_tables}
 use Rattle.core_steps.specs.Stages.{read_book, put_book, open_ports, said, tables_after}
@@ -71,12 +70,13 @@ use Rattle.core_laws.specs.Waits.{WaitsAreTied}
 use Rattle.core_laws.proofs.Answering.{message_reads, message_reads_port}
 use Rattle.core_laws.proofs.Books.{IsBook, book_opened, book_put_living}
 use Rattle.core_laws.proofs.Ports.{joined_reads, acted_reads}
-use Rattle.core_laws.proofs.Playing.{played_parts, played_first, no_items, silent_after}
+use Rattle.core_laws.proofs.Playing.{played_parts, played_first, no_items, silent_after, PlaysOn}
 use Rattle.core_laws.proofs.Reactions.{ReadsSane, IsSane}
 use Rattle.core_laws.proofs.Tells.{Reading, tell_clunked, tell_deletions, tell_served, tell_ports}
 use Rattle.core_laws.proofs.Tied.{on_version, tag_or_version, waits_tied}
 use Rattle.core_laws.proofs.Zips.{key_parts, none_asks}
 use Rattle.core_laws.proofs.Wells.{IsWell, opens_in, sane_in, well_after}
+use Rattle.am_journal.specs.declared.event.Journal.{Journal}
 
 -- ---- reads that wait are among those that wait
 
@@ -238,14 +238,14 @@ says_once s conn tag d body tied is idle alone =
     }
 
 -- a Tversion is answered alone
-version_alone : (before : List Event) (conn tag : ℕ) (o : Origin) (msize : Option ℕ) (body : RBody)
+version_alone : (before : Journal) (conn tag : ℕ) (o : Origin) (msize : Option ℕ) (body : RBody)
     → front_of (present_after before) conn (message_doing (present_after before) (does (effect.Begins msize) [] body) o)
     ++ rest_of (present_after before) conn tag (message_doing (present_after before)
     (does (effect.Begins msize) [] body) o) ≡ []
 unfolding task_deeds task_refusal
 version_alone before conn tag o msize body = silent_after before (next_entry (present_after before))
 
-alone_by : (before : List Event) (conn : ℕ) (msg : TMsg) → IsPlayed enabled before
+alone_by : (before : Journal) (conn : ℕ) (msg : TMsg) → AreEnabled before
     → enabled before (event.Msg conn msg) ≡ None → IsAlone (run before) conn msg.tag
     (doing_of (present_after before) (event.Msg conn msg))
 alone_by before conn msg played allowed =
@@ -407,7 +407,7 @@ stepped_tables : (s : State) (conn : ℕ) (msg : TMsg) → (step s (event.Msg co
 unfolding step
 stepped_tables s conn msg = refl
 
-read_by : (before : List Event) (conn : ℕ) (msg : TMsg) (o : Origin) (fid opening count : ℕ) (said_now : Option RBody)
+read_by : (before : Journal) (conn : ℕ) (msg : TMsg) (o : Origin) (fid opening count : ℕ) (said_now : Option RBody)
     → kind_t msg.body ≡ 116
     → doing_of (present_after before) (event.Msg conn msg) ≡ plain_read (present_after before) o fid opening count
     → read_said (run before).tables (run before).scene.book (asker_of conn msg.tag opening count) ≡ said_now
@@ -441,7 +441,7 @@ read_by before conn msg o fid opening count None asks does is =
           is;
     }
 
-reads_by : (before : List Event) (conn : ℕ) (msg : TMsg) (fid opening count : ℕ) → IsWell (run before)
+reads_by : (before : Journal) (conn : ℕ) (msg : TMsg) (fid opening count : ℕ) → IsWell (run before)
     → kind_t msg.body ≡ 116
     → (doing_of (present_after before) (event.Msg conn msg)).answer ≡ Some (Reads fid opening count)
     → ReadsOnce before conn msg (event_read (run before) (asker_of conn msg.tag opening count))
@@ -514,7 +514,7 @@ port_answers asked s x None false body tread is =
     let same : r.Read (port_piece s x).bytes ≡ body = cc in subst (IsAnswerTo asked) same
     (inl (ap (λ (n : ℕ). n + 1) (sym tread)))
 
-port_by : (before : List Event) (conn : ℕ) (msg : TMsg) (o : Origin) (fid opening count : ℕ) (said_now : Option RBody)
+port_by : (before : Journal) (conn : ℕ) (msg : TMsg) (o : Origin) (fid opening count : ℕ) (said_now : Option RBody)
     → kind_t msg.body ≡ 116
     → doing_of (present_after before) (event.Msg conn msg) ≡ plain_port (present_after before) o fid opening count
     → port_said (run before).tables (run before).scene.ports (asker_of conn msg.tag opening count) ≡ said_now
@@ -548,7 +548,7 @@ port_by before conn msg o fid opening count None asks does is =
       must = port_must s.scene.ports x (read_refusal s.tables s.scene.ports x) (port_waits s.scene.ports x) is;
     }
 
-reads_port_by : (before : List Event) (conn : ℕ) (msg : TMsg) (fid opening count : ℕ) → IsWell (run before)
+reads_port_by : (before : Journal) (conn : ℕ) (msg : TMsg) (fid opening count : ℕ) → IsWell (run before)
     → kind_t msg.body ≡ 116
     → (doing_of (present_after before) (event.Msg conn msg)).answer ≡ Some (ReadsPort fid opening count)
     → ReadsOnce before conn msg (port_read (run before) (asker_of conn msg.tag opening count))
@@ -569,7 +569,7 @@ reads_port_by before conn msg fid opening count well asks is =
 
 -- ---- all messages
 
-answered_by : (before : List Event) (conn : ℕ) (msg : TMsg) (a : Option Answer) → IsWell (run before)
+answered_by : (before : Journal) (conn : ℕ) (msg : TMsg) (a : Option Answer) → IsWell (run before)
     → WaitsAreTied (run before) → IsAlone (run before) conn msg.tag
     (doing_of (present_after before) (event.Msg conn msg)) → (doing_of (present_after before)
     (event.Msg conn msg)).answer ≡ a
@@ -585,11 +585,11 @@ answered_by before conn msg (Some (Reads fid opening count)) well tied alone is 
 answered_by before conn msg (Some (ReadsPort fid opening count)) well tied alone is has = reads_port_by before conn msg
     fid opening count well has is
 
-pub messages_answered : EachIsAnswered → (journal : List Event) → IsPlayed enabled journal → MessagesAreAnswered journal
+pub messages_answered : EachIsAnswered → (journal : Journal) → AreEnabled journal → MessagesAreAnswered journal
 messages_answered law journal played before behind conn msg is =
     let e : Event = event.Msg conn msg in
-    let parts : ArePlayed enabled [] before × ArePlayed enabled ([] ++ before) (e ∷ behind) = played_parts [] before
-    (e ∷ behind) (subst (IsPlayed enabled) (sym is) played) in
+    let parts : AreEnabled before × PlaysOn before (e ∷ behind) = played_parts before (e ∷ behind)
+    (subst AreEnabled (sym is) played) in
     answered_by before conn msg (doing_of (present_after before) e).answer (well_after before parts.0)
     (waits_tied before parts.0) (alone_by before conn msg parts.0 (played_first before behind e parts.1).0) refl
     (law (present_after before) conn msg)

@@ -1,6 +1,6 @@
 -- An item is written back once, and its life names the entry.
-use Rattle.std.proofs.Common.{◌≡◌, ℕ, zero, suc, ◌+◌, ◌≤◌, Bool, true, false, cond, List, [], ◌∷◌, ◌++◌, length, Option}
-use Rattle.std.proofs.Common.{Some, None, Result, Ok, Err, refl, sym, ap, subst, ◌∙◌, append_assoc, append-nil, arith}
+use Rattle.std.proofs.Common.{◌≡◌, ℕ, zero, suc, ◌+◌, ◌≤◌, Bool, true, false, cond, List, [], ◌∷◌, length, Option}
+use Rattle.std.proofs.Common.{Some, None, Result, Ok, Err, refl, sym, ap, subst, ◌∙◌, arith}
 use Rattle.win_events.specs.Back.{back_of}
 use Rattle.win_events.specs.declared.item.BackMsg.{BackMsg}
 use Rattle.win_events.specs.declared.item.Item.{Item}
@@ -34,6 +34,10 @@ use Rattle.acme_core.proofs.Idling.{run_idle}
 use Rattle.core_laws.specs.Laws.{IsBackAt, LivesNameTheEntry, WrittenBackOnce, written_by}
 use Rattle.core_laws.proofs.Lives.{ended_keep, is_settled, settled_keep, IsKeptTo, kept_first, keep_grown, end_written}
 use Rattle.core_laws.proofs.Lives.{end_after}
+use Rattle.am_journal.specs.declared.event.Journal.{Journal}
+use Rattle.am_journal.specs.Journal.{longer}
+use Rattle.core_laws.specs.Fronts.{followed}
+use Rattle.core_laws.proofs.Playing.{goes_on, none_more}
 
 -- ---- what ended stays so, whatever comes
 
@@ -50,18 +54,19 @@ step_ends s e lawful latest =
     d refl begins in
     (end_after b at p (kind_of e) d refl (end_written b at (grown_book p (kind_of e) d) d.back grown)).keeps
 
-all_end : (before events : List Event) → KeepsEnded (run before).scene.book (run (before ++ events)).scene.book
-all_end before [] = subst (λ (l : List Event). KeepsEnded (run before).scene.book (run l).scene.book)
-    (sym (append-nil before)) (λ v n r is t. is)
+all_end : (before : Journal) (events : List Event) → KeepsEnded (run before).scene.book
+    (run (followed before events)).scene.book
+all_end before [] = subst (λ (l : Journal). KeepsEnded (run before).scene.book (run l).scene.book)
+    (sym (none_more before)) (λ v n r is t. is)
 all_end before (e ∷ events) =
-    let next : List Event = before ++ e ∷ [] in
+    let next : Journal = longer before e in
     let idle : AreIdle [] (run before).entries (run before).scene.book = run_idle before in
     let one : KeepsEnded (run before).scene.book (run next).scene.book =
     subst (λ (s : State). KeepsEnded (run before).scene.book s.scene.book) (sym (run-push before e))
     (step_ends (run before) e idle.lawful idle.latest)
     in
-    subst (λ (l : List Event). KeepsEnded (run before).scene.book (run l).scene.book)
-    (append_assoc before (e ∷ []) events)
+    subst (λ (l : Journal). KeepsEnded (run before).scene.book (run l).scene.book)
+    (goes_on before e events)
     (λ v n r is t. all_end next events v n r (one v n r is t) t)
 
 -- ---- an item that is written back was taken
@@ -195,20 +200,20 @@ step_back s e b lawful latest is =
 
 -- ---- every journal
 
-pub back_from : (before behind : List Event) (e : Event) (b : BackItem) → written_by before e ≡ Some b
-    → IsBackFrom (run before).scene.book (run (before ++ e ∷ behind)).scene.book b (length before + 1)
+pub back_from : (before : Journal) (behind : List Event) (e : Event) (b : BackItem) → written_by before e ≡ Some b
+    → IsBackFrom (run before).scene.book (run (followed before (e ∷ behind))).scene.book b (length before.events + 1)
 back_from before behind e b is =
     let s : State = run before in
     let old : BookState = s.scene.book in
     let idle : AreIdle [] s.entries s.scene.book = run_idle before in
     let back : IsBackFrom old (step s e).scene.book b (s.entries + 1) = step_back s e b idle.lawful idle.latest is in
-    let next : IsBackFrom old (run (before ++ e ∷ [])).scene.book b (s.entries + 1) =
+    let next : IsBackFrom old (run (longer before e)).scene.book b (s.entries + 1) =
     subst (λ (t : State). IsBackFrom old t.scene.book b (s.entries + 1)) (sym (run-push before e)) back in
-    let kept : KeepsEnded (run (before ++ e ∷ [])).scene.book (run (before ++ e ∷ behind)).scene.book =
-    subst (λ (l : List Event). KeepsEnded (run (before ++ e ∷ [])).scene.book (run l).scene.book)
-    (append_assoc before (e ∷ []) behind) (all_end (before ++ e ∷ []) behind)
+    let kept : KeepsEnded (run (longer before e)).scene.book (run (followed before (e ∷ behind))).scene.book =
+    subst (λ (l : Journal). KeepsEnded (run (longer before e)).scene.book (run l).scene.book)
+    (goes_on before e behind) (all_end (longer before e) behind)
     in
-    subst (λ (n : ℕ). IsBackFrom old (run (before ++ e ∷ behind)).scene.book b (n + 1)) (entries_counted before)
+    subst (λ (n : ℕ). IsBackFrom old (run (followed before (e ∷ behind))).scene.book b (n + 1)) (entries_counted before)
     (record {
       item = next.item;
       opening = next.opening;
@@ -220,7 +225,8 @@ back_from before behind e b is =
 
 pub named : LivesNameTheEntry
 named before behind e b is =
-    let x : IsBackFrom (run before).scene.book (run (before ++ e ∷ behind)).scene.book b (length before + 1) =
+    let x : IsBackFrom (run before).scene.book (run (followed before (e ∷ behind))).scene.book b
+    (length before.events + 1) =
     back_from before behind e b is in
     record { item = x.item; opening = x.opening; taken = x.taken; is = x.is }
 
@@ -230,9 +236,10 @@ not_taken o item opening taken at is t = let no : has_taken o ≡ false = ap has
 
 pub once : WrittenBackOnce
 once before between e f b first second =
-    let back : IsBackAt (run (before ++ e ∷ between)).scene.book b (length before + 1) = named before between e b
-    first in
-    not_taken (recorded_of (run (before ++ e ∷ between)).scene.book b.window b.number) back.item back.opening back.taken
-    (length before + 1) back.is (was_taken (run (before ++ e ∷ between)) f b second)
+    let back : IsBackAt (run (followed before (e ∷ between))).scene.book b (length before.events + 1) =
+    named before between e b first in
+    not_taken (recorded_of (run (followed before (e ∷ between))).scene.book b.window b.number) back.item back.opening
+    back.taken
+    (length before.events + 1) back.is (was_taken (run (followed before (e ∷ between))) f b second)
 
 pub ruleset backing = (named)

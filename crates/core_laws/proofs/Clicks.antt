@@ -36,7 +36,7 @@ use Rattle.acme_core.specs.Run.{step, run, present_after}
 use Rattle.core_steps.specs.Replies.{replies_of}
 use Rattle.core_steps.specs.Stages.{said, tables_after, scene_after}
 use Rattle.core_closing.specs.Closing.{left_unsent}
-use Rattle.core_parts.specs.States.{State, present, start, next_entry}
+use Rattle.core_parts.specs.States.{State, present, next_entry, start_of}
 use Rattle.plumb_ports.specs.PortsState.{PortsState}
 use Rattle.core_events.specs.declared.response.Response.{Response}
 use Rattle.core_events.specs.PortServing.{ports_served, ports_after_serving}
@@ -47,6 +47,8 @@ use Rattle.acme_core.proofs.Idling.{ports_idle_after}
 use Rattle.core_laws.specs.Laws.{OnlyTells, ClicksAreTold, item_of_click}
 use Rattle.core_laws.specs.Saying.{said_after}
 use Rattle.core_laws.proofs.Wells.{done_sessions}
+use Rattle.am_journal.specs.declared.event.Journal.{Journal}
+use Rattle.am_journal.specs.Journal.{longer}
 
 -- ---- nothing of a step is left in the scene behind it
 
@@ -59,9 +61,9 @@ unfolding step
 fold_tidy s [] h = h
 fold_tidy s (e ∷ events) h = fold_tidy (step s e) events refl
 
-run_tidy : (journal : List Event) → (run journal).scene ≡ tidy (run journal).scene
+run_tidy : (journal : Journal) → (run journal).scene ≡ tidy (run journal).scene
 unfolding run
-run_tidy journal = fold_tidy start journal refl
+run_tidy journal = fold_tidy (start_of journal.format) journal.events refl
 
 -- ---- deeds that make an item at most
 
@@ -183,9 +185,9 @@ told_look s at h idle opened =
 
 -- ---- every journal
 
-behind : (before : List Event) (e : Event) (w : ℕ) (o : Option Item)
+behind : (before : Journal) (e : Event) (w : ℕ) (o : Option Item)
     → Told (run before) (kind_of e) w (doing_of (present (run before)) e) o
-    → OnlyTells (run before) (run (before ++ e ∷ [])) (said_after before e) w o
+    → OnlyTells (run before) (run (longer before e)) (said_after before e) w o
 unfolding step
 behind before e w o h =
     let same : OnlyTells (run before) (step (run before) e) (said_after before e) w o = record {
@@ -204,7 +206,7 @@ clicks before (event.Exec at) w is opened =
     let same : at.window ≡ w = cc in
     let mine : is_open_window (run before).scene.book at.window ≡ true =
     subst (λ (v : ℕ). is_open_window (run before).scene.book v ≡ true) (sym same) opened in
-    subst (λ (v : ℕ). OnlyTells (run before) (run (before ++ event.Exec at ∷ [])) (said_after before (event.Exec at)) v
+    subst (λ (v : ℕ). OnlyTells (run before) (run (longer before (event.Exec at))) (said_after before (event.Exec at)) v
     (item_of_click (present_after before).scene (event.Exec at))) same
     (behind before (event.Exec at) at.window (item_of_click (present_after before).scene (event.Exec at))
     (told_exec (run before) at None (run_tidy before) (ports_idle_after before) mine))
@@ -212,7 +214,7 @@ clicks before (event.Arg at chord) w is opened =
     let same : at.window ≡ w = cc in
     let mine : is_open_window (run before).scene.book at.window ≡ true =
     subst (λ (v : ℕ). is_open_window (run before).scene.book v ≡ true) (sym same) opened in
-    subst (λ (v : ℕ). OnlyTells (run before) (run (before ++ event.Arg at chord ∷ []))
+    subst (λ (v : ℕ). OnlyTells (run before) (run (longer before (event.Arg at chord)))
     (said_after before (event.Arg at chord)) v (item_of_click (present_after before).scene (event.Arg at chord)))
     same
     (behind before (event.Arg at chord) at.window (item_of_click (present_after before).scene (event.Arg at chord))
@@ -221,7 +223,7 @@ clicks before (event.Look at) w is opened =
     let same : at.window ≡ w = cc in
     let mine : is_open_window (run before).scene.book at.window ≡ true =
     subst (λ (v : ℕ). is_open_window (run before).scene.book v ≡ true) (sym same) opened in
-    subst (λ (v : ℕ). OnlyTells (run before) (run (before ++ event.Look at ∷ [])) (said_after before (event.Look at)) v
+    subst (λ (v : ℕ). OnlyTells (run before) (run (longer before (event.Look at))) (said_after before (event.Look at)) v
     (item_of_click (present_after before).scene (event.Look at))) same
     (behind before (event.Look at) at.window (item_of_click (present_after before).scene (event.Look at))
     (told_look (run before) at (run_tidy before) (ports_idle_after before) mine))

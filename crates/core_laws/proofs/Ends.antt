@@ -10,7 +10,7 @@ use Rattle.fid_table.specs.Tables.{Tables}
 use Rattle.event_book.specs.BookState.{BookState}
 use Rattle.am_journal.specs.declared.event.Event.{Event}
 use Rattle.am_journal.specs.declared.event.Event.TheVariants as event
-use Rattle.am_counter.specs.Played.{ArePlayed, IsPlayed, has_hang, is_hang_of}
+use Rattle.am_counter.specs.Played.{ArePlayed, has_hang, is_hang_of}
 use Rattle.am_counter.specs.Sent.{sent, sent_from}
 use Rattle.core_events.specs.declared.response.Response.{Response}
 use Rattle.core_parts.specs.declared.connection.Connection.{Connection}
@@ -23,7 +23,7 @@ use Rattle.core_intents.specs.Doings.{enabled_at, doing_of}
 use Rattle.core_parts.specs.Doing.{Doing}
 use Rattle.core_intents.specs.Enabled.{dial_refusal}
 use Rattle.core_parts.specs.Kinds.{kind_of}
-use Rattle.acme_core.specs.Run.{step, run, enabled, output_at}
+use Rattle.acme_core.specs.Run.{step, run, enabled, output_at, AreEnabled, output_in}
 use Rattle.core_steps.specs.Stages.{grown_tables, read_book, open_ports, said}
 use Rattle.core_parts.specs.States.{Present, State, present}
 use Rattle.core_steps.specs.Replies.{replies_of}
@@ -33,7 +33,7 @@ use Rattle.core_laws.specs.Laws.{NothingAfterTheHangUp, EndedGetAllReplies}
 use Rattle.core_laws.specs.Replies.{bytes_to}
 use Rattle.core_laws.proofs.Books.{IsBook, book_weaker}
 use Rattle.core_laws.proofs.Fids.{IsHeld, fids_at}
-use Rattle.core_laws.proofs.Playing.{played_more, played_parts}
+use Rattle.core_laws.proofs.Playing.{played_more, played_parts, PlaysOn}
 use Rattle.core_laws.proofs.Replying.{replied_by, replied_from, all_replied, replied_parts}
 use Rattle.core_laws.proofs.Tells.{Tells, Reading, OfMessage, tells}
 use Rattle.core_laws.proofs.Unsents.{ahead, sent_or_unsent}
@@ -42,6 +42,9 @@ use Rattle.core_fids.specs.Fids.{event_opening, port_opening}
 use Rattle.core_laws.proofs.Helds.{AreHeld, held_open, held_after}
 use Rattle.core_laws.proofs.Wells.{Lives, IsOfLive, WaitsOnLive, AreWell, IsWell, IsOwn, begun, own, dial_lives, later}
 use Rattle.core_laws.proofs.Wells.{well_read, well_after}
+use Rattle.am_journal.specs.declared.event.Journal.{Journal}
+use Rattle.am_journal.specs.Journal.{longer, journal_in}
+use Rattle.core_laws.specs.Fronts.{followed}
 
 -- ---- what an entry says goes to connections that live
 
@@ -143,7 +146,7 @@ step_replies : (s : State) (e : Event) → (step s e).replies ≡ replies_of
 unfolding step
 step_replies s e = refl
 
-replied_none : (before : List Event) (e : Event) (conn : ℕ) → enabled before e ≡ None → IsWell (run before)
+replied_none : (before : Journal) (e : Event) (conn : ℕ) → enabled before e ≡ None → IsWell (run before)
     → AreHeld (run before).tables (run before).scene.ports → is_ended (connection_at (run before).connections conn)
     ≡ true → replied_by conn before e ≡ []
 replied_none before e conn allowed well held ended =
@@ -161,43 +164,46 @@ replied_none before e conn allowed well held ended =
 
 -- ---- all entries behind a hang-up
 
-hung_more : (before : List Event) (e : Event) (conn : ℕ) → has_hang before conn ≡ true → has_hang (before ++ e ∷ [])
+hung_more : (before : Journal) (e : Event) (conn : ℕ) → has_hang before.events conn ≡ true
+    → has_hang (longer before e).events
     conn ≡ true
-hung_more before e conn hung = list_any-append (is_hang_of conn) before (e ∷ [])
-    ∙ or_left (has_hang before conn) (is_hang_of conn e || false) hung
+hung_more before e conn hung = list_any-append (is_hang_of conn) before.events (e ∷ [])
+    ∙ or_left (has_hang before.events conn) (is_hang_of conn e || false) hung
 
-nothing_behind : (before events : List Event) (conn : ℕ) → conn < 64 → IsPlayed enabled before
-    → ArePlayed enabled before events → has_hang before conn ≡ true
+nothing_behind : (before : Journal) (events : List Event) (conn : ℕ) → conn < 64 → AreEnabled before
+    → PlaysOn before events → has_hang before.events conn ≡ true
     → replied_from before events conn ≡ []
 unfolding ArePlayed
 nothing_behind before [] conn small was played hung = refl
 nothing_behind before (e ∷ events) conn small was played hung =
-    let ended : is_ended (connection_at (run before).connections conn) ≡ true = tells_connections.ended before conn was
+    let ended : is_ended (connection_at (run before).connections conn) ≡ true =
+    (tells_connections before.format).ended before.events conn was
     small ∙ hung in
     let first : replied_by conn before e ≡ [] = replied_none before e conn played.1 (well_after before was)
     (held_after before was) ended in
-    ap (λ (l : List ℕ). l ++ replied_from (before ++ e ∷ []) events conn) first
-    ∙ nothing_behind (before ++ e ∷ []) events conn small (played_more [] before e was played.0 played.1) played.2
+    ap (λ (l : List ℕ). l ++ replied_from (longer before e) events conn) first
+    ∙ nothing_behind (longer before e) events conn small (played_more before e was played.0 played.1) played.2
     (hung_more before e conn hung)
 
 -- ---- the laws
 
-behind : (before rest : List Event) (conn : ℕ) → conn < 64 → IsPlayed enabled (before ++ rest)
-    → has_hang before conn ≡ true → replied_from before rest conn ≡ []
+behind : (before : Journal) (rest : List Event) (conn : ℕ) → conn < 64 → AreEnabled (followed before rest)
+    → has_hang before.events conn ≡ true → replied_from before rest conn ≡ []
 behind before rest conn small played hung =
-    let parts : ArePlayed enabled [] before × ArePlayed enabled before rest = played_parts [] before rest played in
+    let parts : AreEnabled before × PlaysOn before rest = played_parts before rest played in
     nothing_behind before rest conn small parts.0 parts.1 hung
 
 pub nothing_after : NothingAfterTheHangUp
 nothing_after before journal conn small played front hung =
     let rest : List Event = front.0 in
-    let is : before ++ rest ≡ journal = front.1 in
-    let all : IsPlayed enabled (before ++ rest) = subst (IsPlayed enabled) (sym is) played in
+    let is : followed before rest ≡ journal = front.1 in
+    let all : AreEnabled (followed before rest) = subst AreEnabled (sym is) played in
     sym (all_replied journal conn)
-    ∙ ap (λ (l : List Event). replied_from [] l conn) (sym is)
-    ∙ replied_parts [] before rest conn
-    ∙ ap (λ (l : List ℕ). replied_from [] before conn ++ l) (behind before rest conn small all hung)
-    ∙ append-nil (replied_from [] before conn)
+    ∙ ap (λ (l : Journal). replied_from (journal_in l.format []) l.events conn) (sym is)
+    ∙ replied_parts (journal_in before.format []) before.events rest conn
+    ∙ ap (λ (l : List ℕ). replied_from (journal_in before.format []) before.events conn ++ l)
+    (behind before rest conn small all hung)
+    ∙ append-nil (replied_from (journal_in before.format []) before.events conn)
     ∙ all_replied before conn
 
 second_nil : (a b : List ℕ) → a ++ b ≡ [] → b ≡ []
@@ -207,16 +213,19 @@ second_nil (x ∷ a) b e = absurd cc
 pub get_all : EndedGetAllReplies
 get_all before journal conn small played front hung none =
     let rest : List Event = front.0 in
-    let is : before ++ rest ≡ journal = front.1 in
-    let all : IsPlayed enabled (before ++ rest) = subst (IsPlayed enabled) (sym is) played in
+    let is : followed before rest ≡ journal = front.1 in
+    let all : AreEnabled (followed before rest) = subst AreEnabled (sym is) played in
     let silent : replied_from before rest conn ≡ [] = behind before rest conn small all hung in
-    let taken : sent_from output_at before rest conn ++ output_at (before ++ rest) conn ≡ [] =
+    let taken : sent_from (output_in before.format) before.events rest conn ++ output_at (followed before rest) conn ≡ []
+    =
     sym (ahead before rest conn small) ∙ ap (λ (l : List ℕ). output_at before conn ++ l) silent
     ∙ append-nil (output_at before conn) ∙ none
     in
-    let empty : output_at journal conn ≡ [] = ap (λ (l : List Event). output_at l conn) (sym is)
-    ∙ second_nil (sent_from output_at before rest conn) (output_at (before ++ rest) conn) taken in
-    sym (sent_or_unsent journal conn small ∙ ap (λ (l : List ℕ). sent output_at journal conn ++ l) empty
-    ∙ append-nil (sent output_at journal conn))
+    let empty : output_at journal conn ≡ [] = ap (λ (l : Journal). output_at l conn) (sym is)
+    ∙ second_nil (sent_from (output_in before.format) before.events rest conn) (output_at (followed before rest) conn)
+    taken in
+    sym (sent_or_unsent journal conn small ∙ ap (λ (l : List ℕ). sent (output_in journal.format) journal.events conn
+    ++ l) empty
+    ∙ append-nil (sent (output_in journal.format) journal.events conn))
 
 pub ruleset ended = (nothing_after, get_all)

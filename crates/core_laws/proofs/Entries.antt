@@ -1,7 +1,7 @@
 -- An item that was written back was so by one entry, and no other item by the same.
 use Rattle.std.proofs.Common.{◌≡◌, ◌≢◌, ◌==◌, ◌⊎◌, inl, inr, ℕ, zero, suc, ◌+◌, ◌≤◌, Bool, true, false, cond, List, []}
 use Rattle.std.proofs.Common.{◌∷◌, ◌++◌, length, fold, nat_lt, slice_get, Option, Some, None, refl, sym, ap, subst, ◌∙◌}
-use Rattle.std.proofs.Common.{append_assoc, append-nil, arith}
+use Rattle.std.proofs.Common.{arith}
 use Rattle.std.proofs.lemmas.Bool.{false≢true}
 use Rattle.std.proofs.lemmas.Bool.Decides.{nat_tests}
 use Rattle.fid_table.specs.declared.types.Fid.{Fid}
@@ -60,6 +60,11 @@ use Rattle.acme_core.proofs.Idling.{run_idle}
 use Rattle.core_laws.specs.Laws.{IsBackAt, written_by}
 use Rattle.core_laws.specs.WriteBacks.{numbered, HasItsEntry, BacksHaveEntries, OneItemAnEntry}
 use Rattle.core_laws.proofs.Backs.{named}
+use Rattle.am_journal.specs.declared.event.Journal.{Journal}
+use Rattle.am_journal.specs.Journal.{longer, journal_in}
+use Rattle.core_laws.specs.Fronts.{followed}
+use Rattle.core_laws.proofs.Playing.{goes_on, none_more}
+use Rattle.am_journal.specs.declared.event.Format.{Format}
 
 -- ---- what is written back after a change was so before
 
@@ -455,39 +460,41 @@ step_or s e v n r lawful latest is back =
 -- ---- every journal
 
 -- one of these entries wrote it back
-record IsWritten (before entries : List Event) (v n : ℕ) : Type 0 where
+record IsWritten (before : Journal) (entries : List Event) (v n : ℕ) : Type 0 where
   front : List Event
   entry : Event
   rest : List Event
   is : front ++ entry ∷ rest ≡ entries
-  writes : written_by (before ++ front) entry ≡ Some (numbered v n)
+  writes : written_by (followed before front) entry ≡ Some (numbered v n)
 
-later_written : (before entries : List Event) (e : Event) (v n : ℕ) → IsWritten (before ++ e ∷ []) entries v n
+later_written : (before : Journal) (entries : List Event) (e : Event) (v n : ℕ)
+    → IsWritten (longer before e) entries v n
     → IsWritten before (e ∷ entries) v n
 later_written before entries e v n w = record {
   front = e ∷ w.front;
   entry = w.entry;
   rest = w.rest;
   is = ap (λ (l : List Event). e ∷ l) w.is;
-  writes = subst (λ (l : List Event). written_by l w.entry ≡ Some (numbered v n)) (append_assoc before (e ∷ []) w.front)
+  writes = subst (λ (l : Journal). written_by l w.entry ≡ Some (numbered v n)) (goes_on before e w.front)
       w.writes;
 }
 
-first_written : (before entries : List Event) (e : Event) (v n : ℕ) → written_by before e ≡ Some (numbered v n)
+first_written : (before : Journal) (entries : List Event) (e : Event) (v n : ℕ)
+    → written_by before e ≡ Some (numbered v n)
     → IsWritten before (e ∷ entries) v n
 first_written before entries e v n w = record {
   front = [];
   entry = e;
   rest = entries;
   is = refl;
-  writes = subst (λ (l : List Event). written_by l e ≡ Some (numbered v n)) (sym (append-nil before)) w;
+  writes = subst (λ (l : Journal). written_by l e ≡ Some (numbered v n)) (sym (none_more before)) w;
 }
 
-abbrev Comes : List Event → List Event → ℕ → ℕ → Recorded → Type 0
+abbrev Comes : Journal → List Event → ℕ → ℕ → Recorded → Type 0
 Comes before entries v n r = (recorded_of (run before).scene.book v n ≡ Some r) ⊎ IsWritten before entries v n
 
-one_comes : (before entries : List Event) (e : Event) (v n : ℕ) (r : Recorded)
-    → is_back r.life ≡ true → Comes (before ++ e ∷ []) entries v n r → Comes before (e ∷ entries) v n r
+one_comes : (before : Journal) (entries : List Event) (e : Event) (v n : ℕ) (r : Recorded)
+    → is_back r.life ≡ true → Comes (longer before e) entries v n r → Comes before (e ∷ entries) v n r
 one_comes before entries e v n r back (inl l) =
     let idle : AreIdle [] (run before).entries (run before).scene.book = run_idle before in
     elim (step_or (run before) e v n r idle.lawful idle.latest (subst
@@ -497,19 +504,21 @@ one_comes before entries e v n r back (inl l) =
     ]
 one_comes before entries e v n r back (inr w) = inr (later_written before entries e v n w)
 
-comes : (before entries : List Event) (v n : ℕ) (r : Recorded) → recorded_of (run (before ++ entries)).scene.book v
+comes : (before : Journal) (entries : List Event) (v n : ℕ) (r : Recorded)
+    → recorded_of (run (followed before entries)).scene.book v
     n ≡ Some r → is_back r.life ≡ true → Comes before entries v n r
-comes before [] v n r is back = inl (subst (λ (l : List Event). recorded_of (run l).scene.book v n ≡ Some r)
-    (append-nil before) is)
+comes before [] v n r is back = inl (subst (λ (l : Journal). recorded_of (run l).scene.book v n ≡ Some r)
+    (none_more before) is)
 comes before (e ∷ entries) v n r is back =
     one_comes before entries e v n r back
-    (comes (before ++ e ∷ []) entries v n r (subst (λ (l : List Event). recorded_of (run l).scene.book v n ≡ Some r)
-    (sym (append_assoc before (e ∷ []) entries)) is) back)
+    (comes (longer before e) entries v n r (subst (λ (l : Journal). recorded_of (run l).scene.book v n ≡ Some r)
+    (sym (goes_on before e entries)) is) back)
 
-none_there : (v n : ℕ) (r : Recorded) → recorded_of (run []).scene.book v n ≡ Some r → ⊥
+none_there : (format : Format) (v n : ℕ) (r : Recorded)
+    → recorded_of (run (journal_in format [])).scene.book v n ≡ Some r → ⊥
 unfolding run
-none_there v zero r is = cc
-none_there v (suc n) r is = cc
+none_there format v zero r is = cc
+none_there format v (suc n) r is = cc
 
 same_back : (o t m p u n : ℕ) → Back o t m ≡ Back p u n → m ≡ n
 same_back o t m p u n h = cc
@@ -520,29 +529,32 @@ same_entry a b o t m p u n h = same_back o t m p u n (ap (λ (y : Recorded). y.l
     (some_is (as_recorded a (Back o t m)) (as_recorded b (Back p u n)) h))
 
 -- the entry is that which the life names
-entry_is : (journal : List Event) (v n : ℕ) (item : Item) (opening taken_at at : ℕ)
+entry_is : (journal : Journal) (v n : ℕ) (item : Item) (opening taken_at at : ℕ)
     → recorded_of (run journal).scene.book v n ≡ Some (record { item = item; life = Back opening taken_at at })
-    → IsWritten [] journal v n → HasItsEntry journal v n at
+    → IsWritten (journal_in journal.format []) journal.events v n → HasItsEntry journal v n at
 entry_is journal v n item opening taken_at at is w =
-    let back : IsBackAt (run (w.front ++ w.entry ∷ w.rest)).scene.book (numbered v n) (length w.front + 1) =
-    named w.front w.rest w.entry (numbered v n) w.writes in
+    let before : Journal = journal_in journal.format w.front in
+    let whole : followed before (w.entry ∷ w.rest) ≡ journal = ap (journal_in journal.format) w.is in
+    let back : IsBackAt (run (followed before (w.entry ∷ w.rest))).scene.book (numbered v n) (length w.front + 1) =
+    named before w.rest w.entry (numbered v n) w.writes in
     let here : IsBackAt (run journal).scene.book (numbered v n) (length w.front + 1) =
-    subst (λ (l : List Event). IsBackAt (run l).scene.book (numbered v n) (length w.front + 1)) w.is back
+    subst (λ (l : Journal). IsBackAt (run l).scene.book (numbered v n) (length w.front + 1)) whole back
     in
     let number : length w.front + 1 ≡ at = same_entry here.item item here.opening here.taken (length w.front + 1)
     opening taken_at at (sym here.is ∙ is) in
-    record { before = w.front; entry = w.entry; behind = w.rest; is = w.is; number = number; writes = w.writes }
+    record { before = before; entry = w.entry; behind = w.rest; is = whole; number = number; writes = w.writes }
 
-entry_of : (journal : List Event) (v n : ℕ) (item : Item) (opening taken_at at : ℕ)
+entry_of : (journal : Journal) (v n : ℕ) (item : Item) (opening taken_at at : ℕ)
     → recorded_of (run journal).scene.book v n ≡ Some (record { item = item; life = Back opening taken_at at })
-    → Comes [] journal v n (record { item = item; life = Back opening taken_at at }) → HasItsEntry journal v n at
-entry_of journal v n item opening taken_at at is (inl l) = absurd (none_there v n
+    → Comes (journal_in journal.format []) journal.events v n (record { item = item; life = Back opening taken_at at })
+    → HasItsEntry journal v n at
+entry_of journal v n item opening taken_at at is (inl l) = absurd (none_there journal.format v n
     (record { item = item; life = Back opening taken_at at }) l)
 entry_of journal v n item opening taken_at at is (inr w) = entry_is journal v n item opening taken_at at is w
 
-pub have_entries : (journal : List Event) → BacksHaveEntries journal
+pub have_entries : (journal : Journal) → BacksHaveEntries journal
 have_entries journal v n item opening taken_at at is =
-    entry_of journal v n item opening taken_at at is (comes [] journal v n
+    entry_of journal v n item opening taken_at at is (comes (journal_in journal.format []) journal.events v n
     (record { item = item; life = Back opening taken_at at }) is refl)
 
 -- ---- one item an entry
@@ -558,19 +570,28 @@ same_place (x ∷ xs) (y ∷ ys) a b us vs long is =
     let rest : (xs ≡ ys) × (a ≡ b) = same_place xs ys a b us vs (omega (arith, long)) tail in
     (ap (λ (z : Event). z ∷ xs) head ∙ ap (λ (l : List Event). y ∷ l) rest.0, rest.1)
 
-one_each : (journal : List Event) (v n w m at : ℕ) → HasItsEntry journal v n at → HasItsEntry journal w m at
+-- journals of one format with the same events
+same_journal : (a b : Journal) → a.format ≡ b.format → a.events ≡ b.events → a ≡ b
+same_journal a b format events = ap (λ (f : Format). journal_in f a.events) format ∙ ap (journal_in b.format) events
+
+one_each : (journal : Journal) (v n w m at : ℕ) → HasItsEntry journal v n at → HasItsEntry journal w m at
     → numbered v n ≡ numbered w m
 one_each journal v n w m at a b =
-    let long : length a.before ≡ length b.before = (let x = a.number in let y = b.number in omega (arith, x, y)) in
-    let place : (a.before ≡ b.before) × (a.entry ≡ b.entry) = same_place a.before b.before a.entry b.entry a.behind
-    b.behind long (a.is ∙ sym b.is) in
+    let long : length a.before.events ≡ length b.before.events =
+    (let x = a.number in let y = b.number in omega (arith, x, y)) in
+    let whole : followed a.before (a.entry ∷ a.behind) ≡ followed b.before (b.entry ∷ b.behind) = a.is ∙ sym b.is in
+    let place : (a.before.events ≡ b.before.events) × (a.entry ≡ b.entry) =
+    same_place a.before.events b.before.events a.entry b.entry a.behind b.behind long
+    (ap (λ (l : Journal). l.events) whole)
+    in
+    let front : a.before ≡ b.before = same_journal a.before b.before (ap (λ (l : Journal). l.format) whole) place.0 in
     let moved : written_by b.before b.entry ≡ Some (numbered v n) =
     subst (λ (e : Event). written_by b.before e ≡ Some (numbered v n)) place.1
-    (subst (λ (l : List Event). written_by l a.entry ≡ Some (numbered v n)) place.0 a.writes)
+    (subst (λ (l : Journal). written_by l a.entry ≡ Some (numbered v n)) front a.writes)
     in
     some_is (numbered v n) (numbered w m) (sym moved ∙ b.writes)
 
-pub one_item : (journal : List Event) → OneItemAnEntry journal
+pub one_item : (journal : Journal) → OneItemAnEntry journal
 one_item journal v n w m item other opening by taken_at took_at at first second =
     one_each journal v n w m at (have_entries journal v n item opening taken_at at first)
     (have_entries journal w m other by took_at at second)

@@ -25,6 +25,7 @@ use Rattle.core_laws.specs.Moving.{IsMove, builtin_of, is_exec, ExecutedMovesAre
 use Rattle.core_laws.specs.WriteBacks.{numbered}
 use Rattle.core_laws.proofs.Moves.{clicked_moves, command_moves}
 use Rattle.core_laws.proofs.WriteBacks.{IsBackBy, back_by}
+use Rattle.am_journal.specs.declared.event.Journal.{Journal}
 
 exec_action : (e : Entry) (w : ℕ) (kind : Sort) (x : Executed) (s : SceneState) → is_exec kind ≡ true
     → action_of e w kind x s ≡ exec_deeds e w x s
@@ -52,7 +53,7 @@ item_moves e w n item m r s found exec is =
     ∙ exec_action e w item.sort (executed_of item) s exec
     ∙ text_moves e w (executed_of item) m r s is
 
-back_moves : (before : List Event) (e : Event) (w n : ℕ) (item : Item) (m : Move) (r : Range)
+back_moves : (before : Journal) (e : Event) (w n : ℕ) (item : Item) (m : Move) (r : Range)
     → written_by before e ≡ Some (numbered w n) → item_of (present_after before).scene.book w n ≡ Some item
     → is_exec item.sort ≡ true → classified (own_text item.text item.expanded) ≡ command.Builtin (builtin_of m) r
     → IsMove before e m w

@@ -1,6 +1,6 @@
 -- Nothing is said to a tag that was flushed.
-use Rattle.std.proofs.Common.{◌≡◌, ℕ, Bool, true, false, not, cond, eqb, ◌&&◌, List, [], ◌∷◌, ◌++◌, All, None, refl}
-use Rattle.std.proofs.Common.{sym, ap, subst, ◌∙◌, append_assoc}
+use Rattle.std.proofs.Common.{◌≡◌, ℕ, Bool, true, false, not, cond, eqb, ◌&&◌, List, [], ◌∷◌, All, None, refl}
+use Rattle.std.proofs.Common.{sym, ap, subst, ◌∙◌}
 use Rattle.std.specs.List.{filter, list_any}
 use Rattle.std.proofs.lemmas.Bool.{false≢true, not-true, or_parts}
 use Rattle.std.specs.Prelude.{Contains}
@@ -17,7 +17,6 @@ use Rattle.am_journal.specs.declared.event.Event.{Event}
 use Rattle.core_parts.specs.declared.kind.Kind.{Kind}
 use Rattle.core_parts.specs.declared.kind.Kind.TheVariants as kind
 use Rattle.core_parts.specs.Kinds.{kind_of}
-use Rattle.am_counter.specs.Played.{ArePlayed}
 use Rattle.core_fids.specs.declared.effect.Reaction.{Reaction}
 use Rattle.core_fids.specs.declared.refusal.Refusal.TheVariants as refusal
 use Rattle.core_answers.specs.Reactions.{flush_reaction}
@@ -27,7 +26,7 @@ use Rattle.core_events.specs.declared.response.Response.{Response}
 use Rattle.core_events.specs.Waits.{ended}
 use Rattle.core_tasks.specs.Tasks.{task_deeds, task_refusal}
 use Rattle.core_intents.specs.Doings.{message_doing, doing_of}
-use Rattle.acme_core.specs.Run.{step, run, enabled}
+use Rattle.acme_core.specs.Run.{step, run, enabled, AreEnabled}
 use Rattle.core_steps.specs.Stages.{response, said, grown_book, grown_ports, tables_after, book_after, ports_after}
 use Rattle.core_parts.specs.States.{Present, State, present, next_entry}
 use Rattle.core_steps.specs.Replies.{replies_of}
@@ -35,10 +34,13 @@ use Rattle.acme_core.proofs.Goes.{run-push}
 use Rattle.acme_core.proofs.Idling.{idle_after, ports_idle_after}
 use Rattle.core_laws.specs.Laws.{IsFree, RepliesAreSaid, EachFlushIsAnswered, NothingToAFlushedTag, NoReadCanBeAnswered}
 use Rattle.core_laws.specs.Saying.{said_after, asks, is_message, flush_of, flushed, flush_body}
-use Rattle.core_laws.proofs.Playing.{played_parts, played_first, silent_after}
+use Rattle.core_laws.proofs.Playing.{played_parts, played_first, silent_after, goes_on, PlaysOn}
 use Rattle.core_laws.proofs.Quiets.{IsQuiet, OfMessages, quiet_all, quiet_end}
 use Rattle.core_laws.proofs.Tells.{IsWaiting, Reading, OfMessage}
 use Rattle.core_laws.proofs.Wells.{IsWell, well_step, well_after}
+use Rattle.am_journal.specs.declared.event.Journal.{Journal}
+use Rattle.am_journal.specs.Journal.{longer}
+use Rattle.core_laws.specs.Fronts.{followed}
 
 step_replies : (s : State) (e : Event) → (step s e).replies ≡ replies_of
     (said (present s) (kind_of e) (doing_of (present s) e))
@@ -74,7 +76,7 @@ abbrev pub flush_or : Bool → ℕ → Reaction
 flush_or missing oldtag = cond missing (refusal_reaction refusal.VersionFirst) (flush_reaction oldtag)
 
 -- nothing else is said, since no read that waits can be answered
-flush_said : (before : List Event) (conn tag oldtag : ℕ) (there : Bool)
+flush_said : (before : Journal) (conn tag oldtag : ℕ) (there : Bool)
     → said (present (run before)) (kind.Asks conn tag) (message_doing (present (run before))
     (flush_or (not there) oldtag) F) ≡ response conn tag (flush_body there) ∷ []
 unfolding task_deeds task_refusal
@@ -91,7 +93,7 @@ one_of : (x y : Response) → Contains (x ∷ []) y → x ≡ y
 one_of x y c = All-contains (λ z. x ≡ z) (x ∷ []) y (All-cons (λ z. x ≡ z) x [] refl (All-nil (λ z. x ≡ z))) c
 
 -- so where Rflush is said, it is said alone
-flushed_alone : (before : List Event) (conn tag oldtag : ℕ) → Contains (said_after before (flush_of conn tag oldtag))
+flushed_alone : (before : Journal) (conn tag oldtag : ℕ) → Contains (said_after before (flush_of conn tag oldtag))
     (flushed conn tag)
     → said_after before (flush_of conn tag oldtag) ≡ flushed conn tag ∷ []
 flushed_alone before conn tag oldtag said_one =
@@ -156,7 +158,7 @@ of_messages conn tag (e ∷ events) h =
     or_parts (asks conn tag (kind_of e)) (list_any (is_message conn tag) events) h in
     (of_message conn tag (kind_of e) parts.0, of_messages conn tag events parts.1)
 
-free_by : (journal : List Event) (conn tag : ℕ) → IsQuiet (OtherTag conn tag) (run journal) → IsFree journal conn tag
+free_by : (journal : Journal) (conn tag : ℕ) → IsQuiet (OtherTag conn tag) (run journal) → IsFree journal conn tag
 free_by journal conn tag quiet = record {
   waiting = list_any_none (is_waiting conn tag) (run journal).tables.waiting quiet.0;
   reads = list_any_none (is_read conn tag) (run journal).scene.book.reads quiet.1;
@@ -168,18 +170,19 @@ nothing_to_a_flushed before behind conn tag oldtag played said_one none =
     let is : said_after before (flush_of conn tag oldtag) ≡ flushed conn tag ∷ [] = flushed_alone before conn tag oldtag
     said_one in
     let e : Event = flush_of conn tag oldtag in
-    let next : List Event = before ++ e ∷ [] in
-    let parts : ArePlayed enabled [] before × ArePlayed enabled before (e ∷ behind) = played_parts [] before
+    let next : Journal = longer before e in
+    let parts : AreEnabled before × PlaysOn before (e ∷ behind) = played_parts before
     (e ∷ behind) played in
-    let first : (enabled before e ≡ None) × ArePlayed enabled next behind = played_first before behind e parts.1 in
+    let first : (enabled before e ≡ None) × PlaysOn next behind = played_first before behind e parts.1 in
     let own : OfMessages (OtherTag conn oldtag) behind = of_messages conn oldtag behind none in
     let well : IsWell (run next) = subst IsWell (sym (run-push before e))
     (well_step (run before) e first.0 (well_after before parts.0)) in
     let quiet : IsQuiet (OtherTag conn oldtag) (run next) =
     subst (IsQuiet (OtherTag conn oldtag)) (sym (run-push before e)) (quiet_then (run before) conn tag oldtag is)
     in (
-      subst (λ (l : List Event). IsFree l conn oldtag) (append_assoc before (e ∷ []) behind)
-          (free_by (next ++ behind) conn oldtag (quiet_end (OtherTag conn oldtag) next behind first.1 own well quiet)),
+      subst (λ (l : Journal). IsFree l conn oldtag) (goes_on before e behind)
+          (free_by (followed next behind) conn oldtag (quiet_end (OtherTag conn oldtag) next behind first.1 own well
+          quiet)),
       quiet_all (OtherTag conn oldtag) next behind first.1 own well quiet,
     )
 

@@ -1,16 +1,15 @@
 -- After each journal of enabled events each read of a port that waits is on an opening that a fid of its connection
 -- has.
-use Rattle.std.proofs.Common.{◌≡◌, ℕ, List, [], ◌∷◌, ◌++◌, slice_index_or, Option, Some, None, All, refl, sym, ap}
-use Rattle.std.proofs.Common.{subst, ◌∙◌, append_assoc, append-nil}
+use Rattle.std.proofs.Common.{◌≡◌, ℕ, List, [], ◌∷◌, slice_index_or, Option, Some, None, All, refl, sym, ap}
+use Rattle.std.proofs.Common.{subst, ◌∙◌}
 use Rattle.std.proofs.lemmas.List.Elements.{All-nil, All-weaker}
 use Rattle.fid_table.specs.declared.types.Fid.{Fid}
-use Rattle.am_journal.specs.declared.event.Format.TheVariants.{One}
 use Rattle.fid_table.specs.Tables.{Tables, nothing, fid_of, fids_of, after_join, after_hangup, after_take}
 use Rattle.fid_table.specs.Tables.{after_version}
 use Rattle.wait_queue.specs.declared.types.Asker.{Asker}
 use Rattle.event_book.specs.BookState.{BookState}
 use Rattle.plumb_ports.specs.PortsState.{PortsState}
-use Rattle.am_counter.specs.Played.{ArePlayed, IsPlayed}
+use Rattle.am_counter.specs.Played.{ArePlayed}
 use Rattle.am_journal.specs.declared.event.Event.{Event}
 use Rattle.core_fids.specs.Fids.{at_port, port_opening}
 use Rattle.core_fids.specs.declared.effect.Answer.{Answer}
@@ -33,7 +32,7 @@ use Rattle.core_steps.specs.PortReads.{port_read_in, asked_ports, asked_tables}
 use Rattle.core_steps.specs.Stages.{asker_of, answer_tables, acted, read_tables, grown_tables, open_ports, grown_ports}
 use Rattle.core_steps.specs.Stages.{tables_after, ports_after, said}
 use Rattle.core_closing.specs.Closing.{left_ports, ended_tables}
-use Rattle.acme_core.specs.Run.{step, run, enabled}
+use Rattle.acme_core.specs.Run.{step, run, AreEnabled}
 use Rattle.acme_core.proofs.Goes.{run-push}
 use Rattle.core_laws.proofs.Fids.{IsHeld, held_join, held_put, held_take, held_version, held_same}
 use Rattle.core_laws.proofs.Ports.{joined_reads, read_reads, served_reads, acted_reads, leave_reads, without_fids_reads}
@@ -41,6 +40,11 @@ use Rattle.core_laws.proofs.Ports.{cancelled_reads, left_none, IsApart, without_
 use Rattle.core_laws.proofs.Reactions.{PutsSane, of_port, keeps}
 use Rattle.core_laws.proofs.Wells.{IsWell, opens_in, IsOwn, AsksPortSane, own, no_entries, done_sessions}
 use Rattle.core_laws.proofs.Wells.{cancelled_sessions, waits_sessions, well_step}
+use Rattle.am_journal.specs.declared.event.Journal.{Journal}
+use Rattle.am_journal.specs.Journal.{longer, journal_in}
+use Rattle.core_laws.specs.Fronts.{followed}
+use Rattle.core_laws.proofs.Playing.{goes_on, none_more, PlaysOn}
+use Rattle.am_journal.specs.declared.event.Format.{Format}
 
 abbrev pub AreHeld : Tables → PortsState → Type 0
 AreHeld t p = All (IsHeld port_opening t) p.reads
@@ -190,20 +194,21 @@ all_step : (s : State) (e : Event) → enabled_at (present s) e ≡ None → Are
 unfolding AreAll
 all_step s e allowed h = (well_step s e allowed h.0, held_step s e allowed h.0 h.1)
 
-held_all : (before events : List Event) → ArePlayed enabled before events → AreAll (run before)
-    → AreAll (run (before ++ events))
+held_all : (before : Journal) (events : List Event) → PlaysOn before events → AreAll (run before)
+    → AreAll (run (followed before events))
 unfolding ArePlayed
-held_all before [] played h = subst (λ (l : List Event). AreAll (run l)) (sym (append-nil before)) h
+held_all before [] played h = subst (λ (l : Journal). AreAll (run l)) (sym (none_more before)) h
 held_all before (e ∷ events) played h =
-    subst (λ (l : List Event). AreAll (run l)) (append_assoc before (e ∷ []) events)
-    (held_all (before ++ e ∷ []) events played.2 (subst AreAll (sym (run-push before e))
+    subst (λ (l : Journal). AreAll (run l)) (goes_on before e events)
+    (held_all (longer before e) events played.2 (subst AreAll (sym (run-push before e))
     (all_step (run before) e played.1 h)))
 
-none_held : AreAll (run [])
+none_held : (format : Format) → AreAll (run (journal_in format []))
 unfolding run AreAll
-none_held = (no_entries, All-nil (IsHeld port_opening (nothing One)))
+none_held format = (no_entries format, All-nil (IsHeld port_opening (nothing format)))
 
-pub held_after : (journal : List Event) → IsPlayed enabled journal
+pub held_after : (journal : Journal) → AreEnabled journal
     → AreHeld (run journal).tables (run journal).scene.ports
 unfolding AreAll
-held_after journal played = (held_all [] journal played none_held).1
+held_after journal played = (held_all (journal_in journal.format []) journal.events played
+    (none_held journal.format)).1

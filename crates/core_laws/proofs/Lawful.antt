@@ -1,6 +1,6 @@
 -- All laws of a journal of the editor.
 use Rattle.std.proofs.Common.{◌≡◌, ℕ, eqb, ◌&&◌, Bool, true, false, List, [], ◌∷◌, ◌++◌, All, inl, inr, None, refl, sym}
-use Rattle.std.proofs.Common.{subst, ◌∙◌, arith, append_assoc}
+use Rattle.std.proofs.Common.{ap, subst, ◌∙◌, arith, append_assoc}
 use Rattle.std.specs.List.{Contains, list_any}
 use Rattle.std.proofs.lemmas.Bool.{eqb-true, false≢true}
 use Rattle.am_journal.specs.declared.event.Event.{Event}
@@ -12,8 +12,7 @@ use Rattle.core_windows.specs.WindowLaws.{NumbersStay}
 use Rattle.core_scene.specs.SceneLaws.{DeedsShow}
 use Rattle.acme_core.proofs.Goes.{groups_numbered}
 use Rattle.acme_core.specs.Laws.{EachIsAnswered}
-use Rattle.acme_core.specs.Run.{enabled, run, present_after}
-use Rattle.am_counter.specs.Played.{ArePlayed, IsPlayed, IsPrefix}
+use Rattle.acme_core.specs.Run.{enabled, run, present_after, AreEnabled}
 use Rattle.core_events.specs.declared.response.Response.{Response}
 use Rattle.core_laws.specs.Journals.{FlushedTagsAreSilent, FlushedReadsGetNothing, NothingBehindHangUps}
 use Rattle.core_laws.specs.Journals.{JournalsAreLawful}
@@ -25,34 +24,39 @@ use Rattle.core_laws.proofs.Ends.{get_all, nothing_after}
 use Rattle.core_laws.proofs.Executed.{executed_moves}
 use Rattle.core_laws.proofs.Flushes.{each_flush, none_can, nothing_to_a_flushed, replies_said}
 use Rattle.core_laws.proofs.Moves.{moves_whole}
-use Rattle.core_laws.proofs.Playing.{played_first, played_parts}
+use Rattle.core_laws.proofs.Playing.{played_first, played_parts, goes_on, PlaysOn}
 use Rattle.core_laws.proofs.Refused.{refusals_exact}
 use Rattle.core_laws.proofs.Sessions.{flushes_answered}
 use Rattle.core_laws.proofs.Tied.{tag_or_version, waits_tied, tags_apart}
 use Rattle.core_laws.proofs.WriteBacks.{acted_once}
 use Rattle.core_laws.proofs.Unsents.{sent_or_unsent}
 use Rattle.core_laws.proofs.Windows.{possible_prefix, all_lawful, histories}
+use Rattle.am_journal.specs.declared.event.Journal.{Journal}
+use Rattle.am_journal.specs.Journal.{longer, journal_in}
+use Rattle.core_laws.specs.Fronts.{followed, IsFront}
 
 -- the events of a beginning were enabled, too
-played_prefix : (before journal : List Event) → IsPrefix before journal → IsPlayed enabled journal
-    → IsPlayed enabled before
-played_prefix before journal front played = (played_parts [] before front.0
-    (subst (IsPlayed enabled) (sym front.1) played)).0
+played_prefix : (before journal : Journal) → IsFront before journal → AreEnabled journal
+    → AreEnabled before
+played_prefix before journal front played = (played_parts before front.0
+    (subst AreEnabled (sym front.1) played)).0
 
 -- the front of a journal up to an entry and some behind it
-silent_by : (journal : List Event) → IsPlayed enabled journal → FlushedTagsAreSilent journal
+silent_by : (journal : Journal) → AreEnabled journal → FlushedTagsAreSilent journal
 silent_by journal played before middle behind conn tag oldtag is said none =
     let e : Event = flush_of conn tag oldtag in
-    let whole : (before ++ e ∷ middle) ++ behind ≡ journal = append_assoc before (e ∷ middle) behind ∙ is in
-    let parts : ArePlayed enabled [] (before ++ e ∷ middle) × ArePlayed enabled ([] ++ (before ++ e ∷ middle)) behind =
-    played_parts [] (before ++ e ∷ middle) behind (subst (IsPlayed enabled) (sym whole) played)
+    let whole : followed (followed before (e ∷ middle)) behind ≡ journal =
+    ap (journal_in before.format) (append_assoc before.events (e ∷ middle) behind) ∙ is
     in
-    let both : IsFree (before ++ e ∷ middle) conn oldtag × All (λ x. is_told conn oldtag x ≡ false)
-    (said_from (before ++ e ∷ []) middle) =
+    let parts : AreEnabled (followed before (e ∷ middle)) × PlaysOn (followed before (e ∷ middle)) behind =
+    played_parts (followed before (e ∷ middle)) behind (subst AreEnabled (sym whole) played)
+    in
+    let both : IsFree (followed before (e ∷ middle)) conn oldtag × All (λ x. is_told conn oldtag x ≡ false)
+    (said_from (longer before e) middle) =
     nothing_to_a_flushed before middle conn tag oldtag parts.0 said none
     in
     record {
-      free = subst (λ (l : List Event). IsFree l conn oldtag) (sym (append_assoc before (e ∷ []) middle)) both.0;
+      free = subst (λ (l : Journal). IsFree l conn oldtag) (sym (goes_on before e middle)) both.0;
       said = both.1;
     }
 
@@ -74,7 +78,7 @@ other_tag conn tag oldtag ws free waits =
     ] refl
 
 -- the tag of a Tflush that was enabled is no waiting read's
-own_tag : (before : List Event) (conn tag oldtag : ℕ) → enabled before (flush_of conn tag oldtag) ≡ None →
+own_tag : (before : Journal) (conn tag oldtag : ℕ) → enabled before (flush_of conn tag oldtag) ≡ None →
     list_any (is_waiting conn tag) (run before).tables.waiting ≡ false
 own_tag before conn tag oldtag allowed =
     elim (tag_or_version (present_after before) conn (record { tag = tag; body = t.Flush oldtag }) allowed) as
@@ -83,12 +87,12 @@ own_tag before conn tag oldtag allowed =
       | inr version ↦ absurd (false≢true version)
     ]
 
-flushed_by : (journal : List Event) → IsPlayed enabled journal → FlushedReadsGetNothing journal
+flushed_by : (journal : Journal) → AreEnabled journal → FlushedReadsGetNothing journal
 flushed_by journal played before middle behind conn tag oldtag is waits none =
     let e : Event = flush_of conn tag oldtag in
     let alone : said_after before e ≡ flushed conn tag ∷ [] = flushes_answered before conn tag oldtag waits in
-    let parts : ArePlayed enabled [] before × ArePlayed enabled ([] ++ before) (e ∷ (middle ++ behind)) =
-    played_parts [] before (e ∷ (middle ++ behind)) (subst (IsPlayed enabled) (sym is) played)
+    let parts : AreEnabled before × PlaysOn before (e ∷ (middle ++ behind)) =
+    played_parts before (e ∷ (middle ++ behind)) (subst AreEnabled (sym is) played)
     in
     let allowed : enabled before e ≡ None = (played_first before (middle ++ behind) e parts.1).0 in
     record {
@@ -100,7 +104,7 @@ flushed_by journal played before middle behind conn tag oldtag is waits none =
 
 -- ---- behind a hang-up
 
-hung_by : (journal : List Event) → IsPlayed enabled journal → NothingBehindHangUps journal
+hung_by : (journal : Journal) → AreEnabled journal → NothingBehindHangUps journal
 hung_by journal played before conn small front hung = record {
   replied = nothing_after before journal conn small played front hung;
   sent_all = λ none. get_all before journal conn small played front hung none;

@@ -7,7 +7,7 @@ mod Reactions
 mod Answering
 mod Wells
 mod Helds
-mod Playing
+pub mod Playing
 mod Tells
 mod Ends
 mod Quiets

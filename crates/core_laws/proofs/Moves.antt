@@ -39,6 +39,7 @@ use Rattle.core_parts.specs.States.{State, present, next_entry}
 use Rattle.acme_core.proofs.Goes.{run-push}
 use Rattle.core_laws.specs.Moving.{moved_story, moved_story_if, TextIsMoved, MovesAreWhole, builtin_of}
 use Rattle.core_laws.proofs.Windows.{possible_prefix, all_lawful, one_lawful}
+use Rattle.am_journal.specs.declared.event.Journal.{Journal}
 
 -- ---- which windows move
 
@@ -125,7 +126,7 @@ text_moved move.Redo s h n is =
 
 -- ---- every journal
 
-pub moves_whole : DeedsShow → (journal : List Event) → IsPossible journal → MovesAreWhole journal
+pub moves_whole : DeedsShow → (journal : Journal) → IsPossible journal → MovesAreWhole journal
 moves_whole show journal all before behind e m w is moved =
     let lawful : AreLawful (run before).windows = all_lawful show before
     (possible_prefix before journal (e ∷ behind, is) all) in

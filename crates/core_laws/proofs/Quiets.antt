@@ -1,6 +1,5 @@
 -- What is true of the connection and the tag of each message, as long as messages come, is true of all that is said.
-use Rattle.std.proofs.Common.{ℕ, ◌+◌, not, List, [], ◌∷◌, ◌++◌, Option, Some, None, All, sym, subst, append_assoc}
-use Rattle.std.proofs.Common.{append-nil}
+use Rattle.std.proofs.Common.{ℕ, ◌+◌, not, List, [], ◌∷◌, Option, Some, None, All, sym, subst}
 use Rattle.std.proofs.lemmas.List.Elements.{All-nil, All-append, All-filter}
 use Rattle.fid_table.specs.Tables.{Tables, fid_of, fids_of, is_waiting_on, after_hangup}
 use Rattle.event_book.specs.BookState.{BookState}
@@ -27,7 +26,7 @@ use Rattle.core_laws.proofs.Ports.{without_fids_reads}
 use Rattle.core_intents.specs.Doings.{doing_of, entry_of}
 use Rattle.core_parts.specs.Doing.{Doing}
 use Rattle.core_parts.specs.Kinds.{kind_of}
-use Rattle.acme_core.specs.Run.{step, run, enabled}
+use Rattle.acme_core.specs.Run.{step, run}
 use Rattle.core_steps.specs.Stages.{asker_of, answer_book, answer_tables, acted, read_tables, grown_tables, grown_book}
 use Rattle.core_steps.specs.Stages.{open_ports, grown_ports, read_book, book_after, said}
 use Rattle.core_closing.specs.Closing.{left_book, left_ports, ended_tables}
@@ -38,6 +37,10 @@ use Rattle.core_laws.proofs.Books.{IsBook, book_without, book_without_fids, book
 use Rattle.core_laws.proofs.Tells.{Tells, Reading, IsWaiting, OfMessage, tells}
 use Rattle.core_laws.proofs.Wells.{IsWell, later, done_waiting, cancelled_waiting, reading_book, waits_waiting}
 use Rattle.core_laws.proofs.Wells.{items_book, well_step}
+use Rattle.am_journal.specs.declared.event.Journal.{Journal}
+use Rattle.am_journal.specs.Journal.{longer}
+use Rattle.core_laws.specs.Fronts.{followed}
+use Rattle.core_laws.proofs.Playing.{goes_on, none_more, PlaysOn}
 
 module _ (L : ℕ → ℕ → Type 0) where
   -- it is true of each read that waits
@@ -216,24 +219,24 @@ module _ (L : ℕ → ℕ → Type 0) where
   OfMessages [] = Unit {0}
   OfMessages (e ∷ events) = OfMessage L (kind_of e) × OfMessages events
 
-  pub quiet_all : (before events : List Event) → ArePlayed enabled before events → OfMessages events
+  pub quiet_all : (before : Journal) (events : List Event) → PlaysOn before events → OfMessages events
       → IsWell (run before) → IsQuiet (run before) → All (Tells L) (said_from before events)
   unfolding ArePlayed said_from
   quiet_all before [] played own well quiet = All-nil (Tells L)
   quiet_all before (e ∷ events) played own well quiet =
       All-append (Tells L) (said (present (run before)) (kind_of e) (doing_of (present (run before)) e))
-      (said_from (before ++ e ∷ []) events) (quiet_says (run before) e own.0 well quiet)
-      (quiet_all (before ++ e ∷ []) events played.2 own.1
+      (said_from (longer before e) events) (quiet_says (run before) e own.0 well quiet)
+      (quiet_all (longer before e) events played.2 own.1
       (subst IsWell (sym (run-push before e)) (well_step (run before) e played.1 well))
       (subst IsQuiet (sym (run-push before e)) (quiet_step (run before) e own.0 well quiet)))
 
-  pub quiet_end : (before events : List Event) → ArePlayed enabled before events → OfMessages events
-      → IsWell (run before) → IsQuiet (run before) → IsQuiet (run (before ++ events))
+  pub quiet_end : (before : Journal) (events : List Event) → PlaysOn before events → OfMessages events
+      → IsWell (run before) → IsQuiet (run before) → IsQuiet (run (followed before events))
   unfolding ArePlayed
-  quiet_end before [] played own well quiet = subst (λ (l : List Event). IsQuiet (run l)) (sym (append-nil before))
+  quiet_end before [] played own well quiet = subst (λ (l : Journal). IsQuiet (run l)) (sym (none_more before))
       quiet
   quiet_end before (e ∷ events) played own well quiet =
-      subst (λ (l : List Event). IsQuiet (run l)) (append_assoc before (e ∷ []) events)
-      (quiet_end (before ++ e ∷ []) events played.2 own.1
+      subst (λ (l : Journal). IsQuiet (run l)) (goes_on before e events)
+      (quiet_end (longer before e) events played.2 own.1
       (subst IsWell (sym (run-push before e)) (well_step (run before) e played.1 well))
       (subst IsQuiet (sym (run-push before e)) (quiet_step (run before) e own.0 well quiet)))

@@ -54,13 +54,14 @@ use Rattle.core_intents.specs.Intents.{reaction_at, server_at}
 use Rattle.core_intents.specs.Origins.{message_origin}
 use Rattle.acme_core.specs.Run.{step, run}
 use Rattle.core_steps.specs.Stages.{asker_of, answer_tables, acted, said}
-use Rattle.core_parts.specs.States.{Present, State, present, start, next_entry}
+use Rattle.core_parts.specs.States.{Present, State, present, next_entry, start_of}
 use Rattle.core_laws.specs.Laws.{FlushesAreAnswered}
 use Rattle.core_laws.specs.Saying.{flushed}
 use Rattle.core_laws.proofs.Answering.{message_reads, message_reads_port}
 use Rattle.core_laws.proofs.Flushes.{flush_or}
 use Rattle.core_laws.proofs.Wells.{done_sessions, done_waiting, cancelled_sessions, cancelled_waiting, waits_sessions}
 use Rattle.core_laws.proofs.Wells.{waits_waiting}
+use Rattle.am_journal.specs.declared.event.Journal.{Journal}
 
 -- a session of the connection is open
 abbrev HasSession : Tables → ℕ → Type 0
@@ -290,9 +291,10 @@ in_fold : (s : State) (events : List Event) → AreInSession s.tables → AreInS
 in_fold s [] h = h
 in_fold s (e ∷ events) h = in_fold (step s e) events (in_step s e h)
 
-in_run : (journal : List Event) → AreInSession (run journal).tables
+in_run : (journal : Journal) → AreInSession (run journal).tables
 unfolding run
-in_run journal = in_fold start journal (All-nil (InSession start.tables))
+in_run journal = in_fold (start_of journal.format) journal.events
+    (All-nil (InSession (start_of journal.format).tables))
 
 -- ---- a Tflush
 

@@ -1,8 +1,8 @@
 -- After each journal of enabled events the reads that wait in the sessions are those of the event files and of the
 -- ports, in order.
 use Rattle.std.proofs.Common.{◌≡◌, ◌⊎◌, inl, inr, ℕ, ◌+◌, ◌≤◌, Bool, true, false, not, cond, eqb, nat_lt, ◌&&◌, ◌||◌}
-use Rattle.std.proofs.Common.{min, zero, suc, fold, List, [], ◌∷◌, ◌++◌, length, codes, Option, Some, None, refl, sym}
-use Rattle.std.proofs.Common.{ap, subst, ◌∙◌, append_assoc, append-nil, arith}
+use Rattle.std.proofs.Common.{min, zero, suc, fold, List, [], ◌∷◌, length, codes, Option, Some, None, refl, sym}
+use Rattle.std.proofs.Common.{ap, subst, ◌∙◌, arith}
 use Rattle.std.specs.List.{list_any}
 use Rattle.std.proofs.lemmas.List.{length-append}
 use Rattle.std.proofs.lemmas.Bool.{and_parts, and_cases, or_parts, not-false, cases_Bool, false≢true}
@@ -29,7 +29,7 @@ use Rattle.am_journal.specs.declared.ending.Ending.{Ending}
 use Rattle.am_journal.specs.declared.event.Event.{Event}
 use Rattle.am_journal.specs.declared.event.Event.TheVariants as event
 use Rattle.am_journal.specs.declared.event.Why.{Why}
-use Rattle.am_counter.specs.Played.{ArePlayed, IsPlayed}
+use Rattle.am_counter.specs.Played.{ArePlayed}
 use Rattle.core_windows.specs.declared.change.Change.{Change}
 use Rattle.core_windows.specs.Windows.{world_of}
 use Rattle.core_scene.specs.Scenes.{deleted_by}
@@ -73,7 +73,7 @@ use Rattle.core_steps.specs.Stages.{response, read_response, asker_of, if_said, 
 use Rattle.core_steps.specs.Stages.{acted, read_tables, grown_tables, read_book, grown_book, open_ports, grown_ports}
 use Rattle.core_steps.specs.Stages.{tables_after, book_after, ports_after}
 use Rattle.core_closing.specs.Closing.{left_ports}
-use Rattle.acme_core.specs.Run.{step, run, enabled}
+use Rattle.acme_core.specs.Run.{step, run, AreEnabled}
 use Rattle.acme_core.proofs.Goes.{run-push}
 use Rattle.core_laws.specs.Waits.{AreApart, WaitsAreTied}
 use Rattle.core_laws.proofs.Answering.{message_reads, message_reads_port, held_of}
@@ -91,6 +91,11 @@ use Rattle.core_laws.proofs.Ties.{Ties, event_node, port_at, ties_more, ties_joi
 use Rattle.core_laws.proofs.Waits.{owners_then, IsToldRight, ties_after}
 use Rattle.core_laws.proofs.Wells.{IsWell, IsOwn, opens_in, own, later, well_read, items_book, sane_in, well_step}
 use Rattle.core_laws.proofs.Wells.{no_entries, AreWell}
+use Rattle.am_journal.specs.declared.event.Journal.{Journal}
+use Rattle.am_journal.specs.Journal.{longer, journal_in}
+use Rattle.core_laws.specs.Fronts.{followed}
+use Rattle.core_laws.proofs.Playing.{goes_on, none_more, PlaysOn}
+use Rattle.am_journal.specs.declared.event.Format.{Format}
 
 abbrev pub AreTied : Tables → BookState → PortsState → Type 0
 AreTied t b p = Ties t b.reads p.reads b.owners p.joined × AreNumbered p
@@ -804,22 +809,22 @@ tied_step s (event.Dir path) allowed well tied = tied_act s (event.Dir path) ref
 abbrev IsAll : State → Type 0
 IsAll s = IsWell s × IsTiedState s
 
-all_from : (before events : List Event) → ArePlayed enabled before events → IsAll (run before)
-    → IsAll (run (before ++ events))
+all_from : (before : Journal) (events : List Event) → PlaysOn before events → IsAll (run before)
+    → IsAll (run (followed before events))
 unfolding ArePlayed
-all_from before [] played h = subst (λ (l : List Event). IsAll (run l)) (sym (append-nil before)) h
+all_from before [] played h = subst (λ (l : Journal). IsAll (run l)) (sym (none_more before)) h
 all_from before (e ∷ events) played h =
     let next : IsAll (step (run before) e) = (
       well_step (run before) e played.1 h.0,
       tied_step (run before) e played.1 h.0 h.1,
     ) in
-    subst (λ (l : List Event). IsAll (run l)) (append_assoc before (e ∷ []) events)
-    (all_from (before ++ e ∷ []) events played.2 (subst IsAll (sym (run-push before e)) next))
+    subst (λ (l : Journal). IsAll (run l)) (goes_on before e events)
+    (all_from (longer before e) events played.2 (subst IsAll (sym (run-push before e)) next))
 
-begins : IsAll (run [])
+begins : (format : Format) → IsAll (run (journal_in format []))
 unfolding run
-begins = (
-  no_entries,
+begins format = (
+  no_entries format,
   (
     record {
       fed = λ w i. absurd i;
@@ -834,9 +839,10 @@ begins = (
   ),
 )
 
-pub tied_after : (journal : List Event) → IsPlayed enabled journal
+pub tied_after : (journal : Journal) → AreEnabled journal
     → AreTied (run journal).tables (run journal).scene.book (run journal).scene.ports
-tied_after journal played = (all_from [] journal played begins).1
+tied_after journal played = (all_from (journal_in journal.format []) journal.events played
+    (begins journal.format)).1
 
 -- what a fid has that is read so
 known : (event port : Option ℕ) (o : ℕ) → (event ≡ Some o) ⊎ (port ≡ Some o) → is_there (feed_of event port) ≡ true
@@ -844,7 +850,7 @@ known event port o (inl h) = ap (λ (x : Option ℕ). is_there (feed_of x port))
 known None port o (inr h) = ap (λ (x : Option ℕ). is_there (feed_of None x)) h
 known (Some y) port o (inr h) = refl
 
-pub waits_tied : (journal : List Event) → IsPlayed enabled journal → WaitsAreTied (run journal)
+pub waits_tied : (journal : Journal) → AreEnabled journal → WaitsAreTied (run journal)
 waits_tied journal played =
     let s : State = run journal in
     let tied = tied_after journal played in
@@ -856,5 +862,5 @@ waits_tied journal played =
       ports = tied.0.ports;
     }
 
-pub tags_apart : (journal : List Event) → IsPlayed enabled journal → AreApart (run journal).tables.waiting
+pub tags_apart : (journal : Journal) → AreEnabled journal → AreApart (run journal).tables.waiting
 tags_apart journal played = (tied_after journal played).0.apart

@@ -9,12 +9,12 @@ use Rattle.am_journal.specs.declared.event.Event.TheVariants as event
 use Rattle.am_counter.specs.Sent.{sent_by, sent_from}
 use Rattle.core_outputs.specs.declared.reply.Reply.{Reply}
 use Rattle.core_parts.specs.Kinds.{kind_of}
-use Rattle.acme_core.specs.Run.{step, run, output_at}
+use Rattle.acme_core.specs.Run.{step, run, output_at, output_in}
 use Rattle.core_parts.specs.declared.kind.Kind.{Kind}
 use Rattle.core_parts.specs.declared.kind.Kind.TheVariants as kind
 use Rattle.core_steps.specs.Stages.{said}
 use Rattle.core_closing.specs.Closing.{left_unsent}
-use Rattle.core_parts.specs.States.{State, present, start}
+use Rattle.core_parts.specs.States.{State, present, start_of}
 use Rattle.core_intents.specs.Doings.{doing_of}
 use Rattle.core_steps.specs.Replies.{replies_of}
 use Rattle.core_outputs.specs.Unsent.{Unsent, nothing_unsent, unsent_at, with_reply, put_reply, put_replies}
@@ -22,10 +22,14 @@ use Rattle.core_events.specs.declared.response.Response.{Response}
 use Rattle.acme_core.proofs.Goes.{run-push}
 use Rattle.core_events.specs.Serving.{served_most}
 use Rattle.core_tasks.specs.Tasks.{task_deeds}
-use Rattle.core_laws.proofs.Playing.{silent_after}
+use Rattle.core_laws.proofs.Playing.{silent_after, goes_on, none_more}
 use Rattle.core_laws.specs.Replies.{bytes_to}
 use Rattle.core_laws.proofs.Replying.{replied_by, replied_from, all_replied}
 use Rattle.core_laws.specs.Laws.{RepliesAreSentOrUnsent}
+use Rattle.am_journal.specs.declared.event.Journal.{Journal}
+use Rattle.am_journal.specs.Journal.{longer, journal_in}
+use Rattle.core_laws.specs.Fronts.{followed}
+use Rattle.am_journal.specs.declared.event.Format.{Format}
 
 -- ---- replies that are put
 
@@ -81,13 +85,13 @@ length_step s e =
     let xs : List Reply = replies_of (said (present s) (kind_of e) (doing_of (present s) e)) in
     length_left (put_replies s.unsent xs) (kind_of e) ∙ length_put s.unsent xs
 
-length_all : (s : State) (journal : List Event) → length (fold step s journal).unsent ≡ length s.unsent
+length_all : (s : State) (events : List Event) → length (fold step s events).unsent ≡ length s.unsent
 length_all s [] = refl
-length_all s (e ∷ journal) = length_all (step s e) journal ∙ length_step s e
+length_all s (e ∷ events) = length_all (step s e) events ∙ length_step s e
 
-pub conns : (journal : List Event) → length (run journal).unsent ≡ 64
+pub conns : (journal : Journal) → length (run journal).unsent ≡ 64
 unfolding run
-conns journal = length_all start journal ∙ length-replicate 64 nothing_unsent
+conns journal = length_all (start_of journal.format) journal.events ∙ length-replicate 64 nothing_unsent
 
 -- ---- one entry
 
@@ -111,8 +115,9 @@ taken_at us c conn inside =
 abbrev said_by : State → Event → List Reply
 said_by s e = replies_of (said (present s) (kind_of e) (doing_of (present s) e))
 
-one : (before : List Event) (e : Event) (conn : ℕ) → conn < length (run before).unsent
-    → output_at before conn ++ bytes_to conn (step (run before) e).replies ≡ sent_by output_at conn before e
+one : (before : Journal) (e : Event) (conn : ℕ) → conn < length (run before).unsent
+    → output_at before conn ++ bytes_to conn (step (run before) e).replies
+    ≡ sent_by (output_in before.format) conn before.events e
     ++ bytes_at (step (run before) e).unsent conn
 unfolding step task_deeds served_most
 one before (event.Dial c) conn inside = sym (put_all (run before).unsent (said_by (run before) (event.Dial c)) conn
@@ -144,45 +149,50 @@ one before (event.File path text) conn inside = sym (put_all (run before).unsent
 one before (event.Dir path) conn inside = sym (put_all (run before).unsent (said_by (run before) (event.Dir path)) conn
     inside)
 
-entry : (before : List Event) (e : Event) (conn : ℕ) → conn < 64
-    → output_at before conn ++ replied_by conn before e ≡ sent_by output_at conn before e
-    ++ output_at (before ++ e ∷ []) conn
+entry : (before : Journal) (e : Event) (conn : ℕ) → conn < 64
+    → output_at before conn ++ replied_by conn before e ≡ sent_by (output_in before.format) conn before.events e
+    ++ output_at (longer before e) conn
 entry before e conn small =
-    let pushed : run (before ++ e ∷ []) ≡ step (run before) e = run-push before e in
-    subst (λ (s : State). output_at before conn ++ bytes_to conn s.replies ≡ sent_by output_at conn before e
+    let pushed : run (longer before e) ≡ step (run before) e = run-push before e in
+    subst (λ (s : State). output_at before conn ++ bytes_to conn s.replies
+    ≡ sent_by (output_in before.format) conn before.events e
     ++ bytes_at s.unsent conn) (sym pushed)
     (one before e conn (omega (arith, small, conns before)))
 
 -- ---- all entries
 
-pub ahead : (before events : List Event) (conn : ℕ) → conn < 64
-    → output_at before conn ++ replied_from before events conn ≡ sent_from output_at before events conn
-    ++ output_at (before ++ events) conn
+pub ahead : (before : Journal) (events : List Event) (conn : ℕ) → conn < 64
+    → output_at before conn ++ replied_from before events conn
+    ≡ sent_from (output_in before.format) before.events events conn
+    ++ output_at (followed before events) conn
 unfolding sent_from
-ahead before [] conn small = append-nil (output_at before conn) ∙ ap (λ (l : List Event). output_at l conn)
-    (sym (append-nil before))
+ahead before [] conn small = append-nil (output_at before conn) ∙ ap (λ (l : Journal). output_at l conn)
+    (sym (none_more before))
 ahead before (e ∷ events) conn small =
-    let next : List Event = before ++ e ∷ [] in
+    let next : Journal = longer before e in
     let later : List ℕ = replied_from next events conn in
-    let taken : List ℕ = sent_by output_at conn before e in
+    let taken : List ℕ = sent_by (output_in before.format) conn before.events e in
     sym (append_assoc (output_at before conn) (replied_by conn before e) later)
     ∙ ap (λ (l : List ℕ). l ++ later) (entry before e conn small)
     ∙ append_assoc taken (output_at next conn) later
     ∙ ap (λ (l : List ℕ). taken ++ l) (ahead next events conn small)
-    ∙ sym (append_assoc taken (sent_from output_at next events conn) (output_at (next ++ events) conn))
-    ∙ ap (λ (l : List Event). (taken ++ sent_from output_at next events conn) ++ output_at l conn)
-    (append_assoc before (e ∷ []) events)
+    ∙ sym (append_assoc taken (sent_from (output_in next.format) next.events events conn)
+    (output_at (followed next events) conn))
+    ∙ ap (λ (l : Journal). (taken ++ sent_from (output_in next.format) next.events events conn) ++ output_at l conn)
+    (goes_on before e events)
 
 none_unsent : (n conn : ℕ) → bytes_at (replicate n nothing_unsent) conn ≡ []
 none_unsent zero conn = refl
 none_unsent (suc n) zero = refl
 none_unsent (suc n) (suc conn) = none_unsent n conn
 
-none_yet : (conn : ℕ) → output_at [] conn ≡ []
+none_yet : (format : Format) (conn : ℕ) → output_at (journal_in format []) conn ≡ []
 unfolding run
-none_yet conn = none_unsent 64 conn
+none_yet format conn = none_unsent 64 conn
 
 pub sent_or_unsent : RepliesAreSentOrUnsent
 sent_or_unsent journal conn small =
-    sym (all_replied journal conn) ∙ ap (λ (l : List ℕ). l ++ replied_from [] journal conn) (sym (none_yet conn))
-    ∙ ahead [] journal conn small
+    let none : Journal = journal_in journal.format [] in
+    sym (all_replied journal conn)
+    ∙ ap (λ (l : List ℕ). l ++ replied_from none journal.events conn) (sym (none_yet journal.format conn))
+    ∙ ahead none journal.events conn small

@@ -1,8 +1,8 @@
 -- After each journal of enabled events each fid is one of a connection that lives, and so is each read that waits;
 -- those of event files are on openings of such fids.
 use Rattle.std.proofs.Common.{◌≡◌, ◌≢◌, ◌⊎◌, inl, inr, ℕ, zero, suc, ◌+◌, Bool, true, false, not, cond, List, [], ◌∷◌}
-use Rattle.std.proofs.Common.{◌++◌, length, slice_index_or, slice_set, Option, Some, None, All, refl, sym, ap, subst}
-use Rattle.std.proofs.Common.{◌∙◌, append_assoc, append-nil, arith}
+use Rattle.std.proofs.Common.{length, slice_index_or, slice_set, Option, Some, None, All, refl, sym, ap, subst}
+use Rattle.std.proofs.Common.{◌∙◌, arith}
 use Rattle.std.specs.List.{filter}
 use Rattle.std.proofs.lemmas.Bool.{eqb-false, not-true}
 use Rattle.std.proofs.lemmas.List.Elements.{All-nil, All-push, All-filter, All-weaker, filter_passes}
@@ -10,7 +10,6 @@ use Rattle.ninep_types.specs.declared.message.TMsg.{TMsg}
 use Rattle.ninep_types.specs.declared.message.RBody.{RBody}
 use Rattle.fid_table.specs.declared.types.Fid.{Fid}
 use Rattle.fid_table.specs.declared.session.Waiting.{Waiting}
-use Rattle.am_journal.specs.declared.event.Format.TheVariants.{One}
 use Rattle.fid_table.specs.Tables.{Tables, nothing, fid_of, fids_of, is_waiting, is_waiting_on, after_join, after_done}
 use Rattle.fid_table.specs.Tables.{after_hangup, after_put, after_take, after_version}
 use Rattle.core_scene.specs.declared.deed.WindowItem.{WindowItem}
@@ -22,7 +21,7 @@ use Rattle.wait_queue.specs.declared.types.Asked.{Asked}
 use Rattle.wait_queue.specs.declared.types.Asked.TheVariants.{Now, Waits}
 use Rattle.event_book.specs.BookState.{BookState, is_living, asked_of}
 use Rattle.event_book.proofs.LawfulLemmas.{lawful-empty}
-use Rattle.am_counter.specs.Played.{ArePlayed, IsPlayed}
+use Rattle.am_counter.specs.Played.{ArePlayed}
 use Rattle.am_journal.specs.declared.ending.Ending.{Ending}
 use Rattle.am_journal.specs.declared.event.Event.{Event}
 use Rattle.am_journal.specs.declared.event.Event.TheVariants as event
@@ -52,11 +51,11 @@ use Rattle.core_parts.specs.Doing.{Doing}
 use Rattle.core_intents.specs.Intents.{reaction_at, server_at}
 use Rattle.core_intents.specs.Origins.{message_origin}
 use Rattle.core_intents.specs.Enabled.{first_why, live_refusal}
-use Rattle.acme_core.specs.Run.{step, run, enabled}
+use Rattle.acme_core.specs.Run.{step, run, AreEnabled}
 use Rattle.core_steps.specs.Stages.{asker_of, answer_book, answer_tables, acted, read_tables, grown_tables, read_book}
 use Rattle.core_steps.specs.Stages.{put_book, grown_book, tables_after, book_after, said}
 use Rattle.core_closing.specs.Closing.{left_book, ended_tables}
-use Rattle.core_parts.specs.States.{Present, State, present, start, next_entry}
+use Rattle.core_parts.specs.States.{Present, State, present, next_entry, start_of}
 use Rattle.acme_core.proofs.Goes.{run-push}
 use Rattle.core_steps.proofs.Joins.{elsewhere}
 use Rattle.core_laws.proofs.Fids.{AllFids, no_fids, fids_weaker, fids_at, IsHeld, fids_join, fids_put, fids_take}
@@ -74,6 +73,11 @@ use Rattle.core_laws.proofs.Books.{book_ask, book_serve_all, book_without, book_
 use Rattle.core_laws.proofs.Books.{book_written, book_closed, without_none, fids_none}
 use Rattle.core_laws.proofs.Reactions.{IsModed, IsStill, PutsSane, IsNew, HasOpening, ReadsSane, IsSane, of_event}
 use Rattle.core_laws.proofs.Reactions.{keeps, reaction_sane}
+use Rattle.am_journal.specs.declared.event.Journal.{Journal}
+use Rattle.am_journal.specs.Journal.{longer, journal_in}
+use Rattle.core_laws.specs.Fronts.{followed}
+use Rattle.core_laws.proofs.Playing.{goes_on, none_more, PlaysOn}
+use Rattle.am_journal.specs.declared.event.Format.{Format}
 
 -- ---- connections
 
@@ -553,25 +557,29 @@ well_step s e allowed well = well_kind (present s) (kind_of e) (doing_of (presen
 
 -- ---- all events
 
-pub no_entries : IsWell start
-no_entries = record {
-  fids = no_fids One (IsOfLive start.connections);
-  waiting = All-nil (WaitsOnLive start.connections);
-  book = record { lawful = lawful-empty; latest = omega arith; reads = All-nil (IsHeld event_opening (nothing One)) };
+pub no_entries : (format : Format) → IsWell (start_of format)
+no_entries format = record {
+  fids = no_fids format (IsOfLive (start_of format).connections);
+  waiting = All-nil (WaitsOnLive (start_of format).connections);
+  book = record {
+    lawful = lawful-empty;
+    latest = omega arith;
+    reads = All-nil (IsHeld event_opening (nothing format));
+  };
 }
 
-well_all : (before events : List Event) → ArePlayed enabled before events → IsWell (run before)
-    → IsWell (run (before ++ events))
+well_all : (before : Journal) (events : List Event) → PlaysOn before events → IsWell (run before)
+    → IsWell (run (followed before events))
 unfolding ArePlayed
-well_all before [] played well = subst (λ (l : List Event). IsWell (run l)) (sym (append-nil before)) well
+well_all before [] played well = subst (λ (l : Journal). IsWell (run l)) (sym (none_more before)) well
 well_all before (e ∷ events) played well =
-    subst (λ (l : List Event). IsWell (run l)) (append_assoc before (e ∷ []) events)
-    (well_all (before ++ e ∷ []) events played.2 (subst IsWell (sym (run-push before e))
+    subst (λ (l : Journal). IsWell (run l)) (goes_on before e events)
+    (well_all (longer before e) events played.2 (subst IsWell (sym (run-push before e))
     (well_step (run before) e played.1 well)))
 
-none_run : IsWell (run [])
+none_run : (format : Format) → IsWell (run (journal_in format []))
 unfolding run
-none_run = no_entries
+none_run format = no_entries format
 
-pub well_after : (journal : List Event) → IsPlayed enabled journal → IsWell (run journal)
-well_after journal played = well_all [] journal played none_run
+pub well_after : (journal : Journal) → AreEnabled journal → IsWell (run journal)
+well_after journal played = well_all (journal_in journal.format []) journal.events played (none_run journal.format)

@@ -1,7 +1,7 @@
 -- What a write to an event file does that is answered by Rwrite: the item that it names is acted on.
 use Rattle.std.specs.Option.{option_map}
 use Rattle.std.proofs.Common.{◌≡◌, ◌⊎◌, inl, inr, ℕ, ◌+◌, ◌==◌, ◌&&◌, ◌||◌, Bool, true, false, not, cond, List, ◌∷◌}
-use Rattle.std.proofs.Common.{◌++◌, length, Option, Some, None, Result, Ok, Err, refl, sym, ap, subst, ◌∙◌}
+use Rattle.std.proofs.Common.{length, Option, Some, None, Result, Ok, Err, refl, sym, ap, subst, ◌∙◌}
 use Rattle.std.proofs.lemmas.Bool.{eqb-true}
 use Rattle.ninep_types.specs.declared.message.RBody.TheVariants as r
 use Rattle.ninep_types.specs.declared.message.TBody.{TBody}
@@ -63,6 +63,8 @@ use Rattle.core_laws.proofs.Backs.{IsBackFrom, back_from, named, once}
 use Rattle.core_laws.proofs.Clicks.{clicks}
 use Rattle.core_laws.proofs.Demands.{IsWriteBack, is_back, reaction_sound}
 use Rattle.core_laws.proofs.Entries.{have_entries, one_item}
+use Rattle.am_journal.specs.declared.event.Journal.{Journal}
+use Rattle.core_laws.specs.Fronts.{followed}
 
 -- ---- the item that bytes name
 
@@ -177,10 +179,11 @@ origin_is s conn tag fid offset w bytes f there node = ap origin_at there ∙ ap
 
 -- ---- every journal
 
-pub acted_on : (before behind : List Event) (conn tag fid offset count w : ℕ) (bytes : List ℕ) (f : Fid)
+pub acted_on : (before : Journal) (behind : List Event) (conn tag fid offset count w : ℕ) (bytes : List ℕ) (f : Fid)
     → fid_of (run before).tables conn fid ≡ Some f → f.node ≡ File w EventsFile
     → (doing_of (present_after before) (write_of conn tag fid offset bytes)).answer ≡ Some (Says (r.Write count))
-    → IsActedOn before (before ++ write_of conn tag fid offset bytes ∷ behind) (write_of conn tag fid offset bytes) w
+    → IsActedOn before (followed before (write_of conn tag fid offset bytes ∷ behind))
+    (write_of conn tag fid offset bytes) w
     bytes
 unfolding task_deeds
 acted_on before behind conn tag fid offset count w bytes f there node answered =
@@ -219,9 +222,9 @@ acted_on before behind conn tag fid offset count w bytes f there node answered =
       life = named before behind e (numbered w item.0) writes;
     }
 
-writes_acted : (journal : List Event) → WritesAreActedOn journal
+writes_acted : (journal : Journal) → WritesAreActedOn journal
 writes_acted journal before behind conn tag fid offset count w bytes f is there node answered =
-    subst (λ (l : List Event). IsActedOn before l (write_of conn tag fid offset bytes) w bytes) is
+    subst (λ (l : Journal). IsActedOn before l (write_of conn tag fid offset bytes) w bytes) is
     (acted_on before behind conn tag fid offset count w bytes f there node answered)
 
 -- ---- the entry that wrote an item back
@@ -249,7 +252,7 @@ found_answer s origin count x b is =
     (Some (or_refused (refusal_if_any y) (Says (r.Write count))))) is
 
 -- the item is written back, and acted on, by a Twrite to an event file of its window that is answered
-pub record IsBackBy (before : List Event) (e : Event) (b : BackItem) : Type 0 where
+pub record IsBackBy (before : Journal) (e : Event) (b : BackItem) : Type 0 where
   pub conn : ℕ
   pub tag : ℕ
   pub fid : ℕ
@@ -267,7 +270,7 @@ pub record IsBackBy (before : List Event) (e : Event) (b : BackItem) : Type 0 wh
   pub deeds : (doing_of (present_after before) e).deeds ≡ act_on_deeds (entry_by (present_after before) origin) b.window
       b.number (present_after before).scene
 
-by_write : (before : List Event) (conn : ℕ) (msg : TMsg) (b : BackItem)
+by_write : (before : Journal) (conn : ℕ) (msg : TMsg) (b : BackItem)
     → written_by before (event.Msg conn msg) ≡ Some b → (x : IsWriteBack (run before).tables conn msg.body
     (reaction_at (present_after before) conn msg))
     → IsBackBy before (event.Msg conn msg) b
@@ -304,7 +307,7 @@ by_write before conn msg b is x =
           (back_task y) s.scene) found;
     }
 
-by_message : (before : List Event) (conn : ℕ) (msg : TMsg) (b : BackItem)
+by_message : (before : Journal) (conn : ℕ) (msg : TMsg) (b : BackItem)
     → written_by before (event.Msg conn msg) ≡ Some b
     → (is_back (reaction_at (present_after before) conn msg).demand ≡ false)
     ⊎ IsWriteBack (run before).tables conn msg.body (reaction_at (present_after before) conn msg)
@@ -313,7 +316,7 @@ by_message before conn msg b is (inl plain) = absurd (not_plain (present_after b
     (reaction_at (present_after before) conn msg).demand plain is)
 by_message before conn msg b is (inr x) = by_write before conn msg b is x
 
-pub back_by : (before : List Event) (e : Event) (b : BackItem) → written_by before e ≡ Some b → IsBackBy before e b
+pub back_by : (before : Journal) (e : Event) (b : BackItem) → written_by before e ≡ Some b → IsBackBy before e b
 back_by before (event.Msg conn msg) b is =
     let s : Present = present_after before in
     by_message before conn msg b is (reaction_sound (server_at s conn) msg.body).0
@@ -335,13 +338,14 @@ some_item a b is = cc
 life_item : (a b : Recorded) → Some a ≡ Some b → a.item ≡ b.item
 life_item a b is = let same : a ≡ b = cc in ap (λ (x : Recorded). x.item) same
 
-pub back_writes : (journal : List Event) → BacksAreWrites journal
+pub back_writes : (journal : Journal) → BacksAreWrites journal
 back_writes journal w n item opening taken at is =
     let h : HasItsEntry journal w n at = have_entries journal w n item opening taken at is in
     let x : IsBackBy h.before h.entry (numbered w n) = back_by h.before h.entry (numbered w n) h.writes in
-    let kept : IsBackFrom (run h.before).scene.book (run journal).scene.book (numbered w n) (length h.before + 1) =
-    subst (λ (l : List Event). IsBackFrom (run h.before).scene.book (run l).scene.book (numbered w n)
-    (length h.before + 1)) h.is (back_from h.before h.behind h.entry (numbered w n) h.writes)
+    let kept : IsBackFrom (run h.before).scene.book (run journal).scene.book (numbered w n) (length h.before.events + 1)
+    =
+    subst (λ (l : Journal). IsBackFrom (run h.before).scene.book (run l).scene.book (numbered w n)
+    (length h.before.events + 1)) h.is (back_from h.before h.behind h.entry (numbered w n) h.writes)
     in
     let now : kept.item ≡ item = life_item _ _ (sym kept.is ∙ is) in
     let same : kept.item ≡ x.item = some_item kept.item x.item (sym
@@ -355,7 +359,7 @@ back_writes journal w n item opening taken at is =
       offset = x.offset;
       bytes = x.bytes;
       value = x.value;
-      is = subst (λ (e : Event). h.before ++ e ∷ h.behind ≡ journal) x.is h.is;
+      is = subst (λ (e : Event). followed h.before (e ∷ h.behind) ≡ journal) x.is h.is;
       number = h.number;
       there = x.there;
       node = x.node;
@@ -364,10 +368,11 @@ back_writes journal w n item opening taken at is =
       action = subst (λ (i : Item). is_action i.sort ≡ true) (sym same ∙ now) x.action;
     }
 
-pub acted_once : (journal : List Event) → ActedOnOnce journal
+pub acted_once : (journal : Journal) → ActedOnOnce journal
 acted_once journal = record {
   writes = writes_acted journal;
-  named = λ before behind e b is written. subst (λ (l : List Event). IsBackAt (run l).scene.book b (length before + 1))
+  named = λ before behind e b is written. subst (λ (l : Journal). IsBackAt (run l).scene.book b
+      (length before.events + 1))
       is (named before behind e b written);
   once = λ before between behind e f b is first second. once before between e f b first second;
   entries = have_entries journal;

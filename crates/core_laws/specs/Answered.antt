@@ -24,6 +24,9 @@ use Rattle.acme_core.specs.Run.{run, present_after}
 use Rattle.core_steps.specs.Stages.{response, asker_of}
 use Rattle.core_parts.specs.States.{State}
 use Rattle.core_laws.specs.Saying.{said_after, is_told}
+use Rattle.am_journal.specs.declared.event.Journal.{Journal}
+use Rattle.am_journal.specs.Journal.{longer}
+use Rattle.core_laws.specs.Fronts.{followed}
 
 -- its own R message, whose type byte is one more, or Rerror with the text of a named refusal
 abbrev pub IsAnswerTo : TBody → RBody → Type 0
@@ -42,9 +45,9 @@ pub record SaysOnce (s : State) (conn tag : ℕ) (body : RBody) (said : List Res
   pub others : All (TellsAWait s) (front ++ rest)
 
 -- It waits, as it must: nothing is said, and a read with its tag waits from then on.
-pub record ReadWaits (before : List Event) (conn : ℕ) (msg : TMsg) (has_to : Bool) : Type 0 where
+pub record ReadWaits (before : Journal) (conn : ℕ) (msg : TMsg) (has_to : Bool) : Type 0 where
   pub silent : said_after before (event.Msg conn msg) ≡ []
-  pub waits : list_any (is_waiting conn msg.tag) (run (before ++ event.Msg conn msg ∷ [])).tables.waiting ≡ true
+  pub waits : list_any (is_waiting conn msg.tag) (run (longer before (event.Msg conn msg))).tables.waiting ≡ true
   pub must : has_to ≡ true
 
 -- a read of an opening: what it is read on, and whether it has to wait
@@ -53,7 +56,7 @@ pub record OpeningRead : Type 0 where
   pub waits : Bool
 
 -- A read of an opening is answered at once and nothing else is said, or it waits.
-abbrev pub ReadsOnce : List Event → ℕ → TMsg → OpeningRead → Option RBody → Type 0
+abbrev pub ReadsOnce : Journal → ℕ → TMsg → OpeningRead → Option RBody → Type 0
 ReadsOnce before conn msg read (Some body) = IsAnswerTo msg.body body
     × (said_after before (event.Msg conn msg) ≡ record (response conn msg.tag body) { feed = Some read.feed } ∷ [])
 ReadsOnce before conn msg read None = ReadWaits before conn msg read.waits
@@ -67,7 +70,7 @@ abbrev pub port_read : State → Asker → OpeningRead
 port_read s asker = record { feed = port_feed asker.opening; waits = port_waits s.scene.ports asker }
 
 -- a message got this answer, and just one reply
-abbrev pub IsAnsweredBy : List Event → ℕ → TMsg → Option Answer → Type 0
+abbrev pub IsAnsweredBy : Journal → ℕ → TMsg → Option Answer → Type 0
 IsAnsweredBy before conn msg None = ⊥
 IsAnsweredBy before conn msg (Some (Says body)) =
     IsAnswerTo msg.body body × SaysOnce (run before) conn msg.tag body (said_after before (event.Msg conn msg))
@@ -81,7 +84,8 @@ IsAnsweredBy before conn msg (Some (ReadsPort fid opening count)) =
 -- Each message of the journal has in its step just one reply to its tag on its connection, its own R message or Rerror;
 -- or it has none and is a read that waits: its count isn't 0, and its opening has no carry, its window no item that
 -- nobody took, or its opening of a port no message (`read_waits` of event_book and of plumb_ports).
-abbrev pub MessagesAreAnswered : List Event → Type 0
+abbrev pub MessagesAreAnswered : Journal → Type 0
 MessagesAreAnswered journal =
-    (before behind : List Event) (conn : ℕ) (msg : TMsg) → before ++ event.Msg conn msg ∷ behind ≡ journal
+    (before : Journal) (behind : List Event) (conn : ℕ) (msg : TMsg)
+    → followed before (event.Msg conn msg ∷ behind) ≡ journal
     → IsAnsweredBy before conn msg (doing_of (present_after before) (event.Msg conn msg)).answer

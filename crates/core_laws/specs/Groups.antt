@@ -9,6 +9,9 @@ use Rattle.edit_log.specs.declared.types.Edit.{Edit}
 use Rattle.win_text.specs.Bodies.{done_edit}
 use Rattle.core_windows.specs.Stories.{WindowStory, story_at}
 use Rattle.acme_core.specs.Run.{run}
+use Rattle.am_journal.specs.declared.event.Journal.{Journal}
+use Rattle.am_journal.specs.Journal.{longer}
+use Rattle.core_laws.specs.Fronts.{followed}
 
 -- all edits that were ever made in a window; none where there is none
 abbrev pub edits_if : Option WindowStory → List Edit
@@ -16,7 +19,7 @@ edits_if None = []
 edits_if (Some s) = s.body.edits
 
 -- all that were made in the window of this number, after these entries
-abbrev pub edits_of : List Event → ℕ → List Edit
+abbrev pub edits_of : Journal → ℕ → List Edit
 edits_of journal w = edits_if (story_at (run journal).windows w)
 
 -- Behind the edits made before, one was made that cut and put this in the text that stood then.
@@ -28,22 +31,22 @@ pub record IsMade (old new : List Edit) (done : Done) : Type 0 where
   pub did : done ≡ done_edit (text_after [] (old ++ earlier)) edit
 
 -- the entry of this number is there, and made in the window what cut and put this
-pub record IsMadeAt (journal : List Event) (w number : ℕ) (done : Done) : Type 0 where
-  pub before : List Event
+pub record IsMadeAt (journal : Journal) (w number : ℕ) (done : Done) : Type 0 where
+  pub before : Journal
   pub entry : Event
   pub behind : List Event
-  pub is : before ++ entry ∷ behind ≡ journal
-  pub at : length before + 1 ≡ number
-  pub makes : IsMade (edits_of before w) (edits_of (before ++ entry ∷ []) w) done
+  pub is : followed before (entry ∷ behind) ≡ journal
+  pub at : length before.events + 1 ≡ number
+  pub makes : IsMade (edits_of before w) (edits_of (longer before entry) w) done
 
 -- The group's first edit was made at the entry of the group's number.
-pub record IsBegun (journal : List Event) (w : ℕ) (g : DoneGroup) : Type 0 where
+pub record IsBegun (journal : Journal) (w : ℕ) (g : DoneGroup) : Type 0 where
   pub first : Done
   pub there : first_of g.edits ≡ Some first
   pub begun : IsMadeAt journal w g.number first
 
 -- So it is with each group of each window that lives, those that are past and those undone.
-abbrev pub GroupsAreBegun : List Event → Type 0
+abbrev pub GroupsAreBegun : Journal → Type 0
 GroupsAreBegun journal =
     (w : ℕ) (s : WindowStory) → story_at (run journal).windows w ≡ Some s
     → AllByRecursion (IsBegun journal w) (s.body.history.past ++ s.body.history.future)

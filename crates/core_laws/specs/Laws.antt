@@ -8,7 +8,7 @@ use Rattle.win_events.specs.declared.item.Life.TheVariants.{Back}
 use Rattle.event_book.specs.BookState.{BookState, is_open_window, recorded_of, after_put}
 use Rattle.am_journal.specs.declared.event.Event.{Event}
 use Rattle.am_journal.specs.declared.event.Event.TheVariants as event
-use Rattle.am_counter.specs.Played.{IsPrefix, IsPlayed, has_hang}
+use Rattle.am_counter.specs.Played.{has_hang}
 use Rattle.am_counter.specs.Sent.{sent}
 use Rattle.acme_cmd.specs.declared.expansion.Click.TheVariants as click
 use Rattle.std.specs.Option.{option_map}
@@ -22,54 +22,58 @@ use Rattle.core_events.specs.Sound.{IsIdle}
 use Rattle.core_events.specs.PortSound.{ArePortsIdle}
 use Rattle.core_events.specs.declared.closing.BackItem.{BackItem}
 use Rattle.core_intents.specs.Doings.{doing_of}
-use Rattle.acme_core.specs.Run.{run, present_after, enabled, output_at}
+use Rattle.acme_core.specs.Run.{run, present_after, output_at, AreEnabled, output_in}
 use Rattle.core_steps.specs.Replies.{replies_of}
 use Rattle.core_steps.specs.Stages.{response}
 use Rattle.core_parts.specs.States.{State}
 use Rattle.am_journal.specs.Limits.{connection_count}
 use Rattle.core_laws.specs.Replies.{replies}
 use Rattle.core_laws.specs.Saying.{said_after, said_from, is_told, is_message, flush_of, flushed, flush_body}
+use Rattle.am_journal.specs.declared.event.Journal.{Journal}
+use Rattle.am_journal.specs.Journal.{longer}
+use Rattle.core_laws.specs.Fronts.{followed, IsFront}
 
 -- What was replied to a connection is what was sent to it, and then what is unsent.
 abbrev pub RepliesAreSentOrUnsent : Type 0
 RepliesAreSentOrUnsent =
-    (journal : List Event) (conn : ℕ) → conn < connection_count → replies journal conn ≡ sent output_at journal conn
+    (journal : Journal) (conn : ℕ) → conn < connection_count → replies journal conn
+    ≡ sent (output_in journal.format) journal.events conn
     ++ output_at journal conn
 
 -- A connection whose hang-up the journal has is replied nothing by the entries behind.
 abbrev pub NothingAfterTheHangUp : Type 0
 NothingAfterTheHangUp =
-    (before journal : List Event) (conn : ℕ) → conn < connection_count → IsPlayed enabled journal
-    → IsPrefix before journal → has_hang before conn ≡ true
+    (before journal : Journal) (conn : ℕ) → conn < connection_count → AreEnabled journal
+    → IsFront before journal → has_hang before.events conn ≡ true
     → replies journal conn ≡ replies before conn
 
 -- So where its hang-up was there and nothing was unsent, all that it was ever replied was sent.
 abbrev pub EndedGetAllReplies : Type 0
 EndedGetAllReplies =
-    (before journal : List Event) (conn : ℕ) → conn < connection_count → IsPlayed enabled journal
-    → IsPrefix before journal → has_hang before conn ≡ true
-    → output_at before conn ≡ [] → sent output_at journal conn ≡ replies journal conn
+    (before journal : Journal) (conn : ℕ) → conn < connection_count → AreEnabled journal
+    → IsFront before journal → has_hang before.events conn ≡ true
+    → output_at before conn ≡ [] → sent (output_in journal.format) journal.events conn ≡ replies journal conn
 
 -- The replies of an entry are the bytes of what it says.
 abbrev pub RepliesAreSaid : Type 0
-RepliesAreSaid = (before : List Event) (e : Event) → (run (before ++ e ∷ [])).replies ≡ replies_of (said_after before e)
+RepliesAreSaid = (before : Journal) (e : Event) → (run (longer before e)).replies ≡ replies_of (said_after before e)
 
 -- Where a read waits with the tag that a Tflush names, it is answered by Rflush, and nothing else is said.
 abbrev pub FlushesAreAnswered : Type 0
 FlushesAreAnswered =
-    (before : List Event) (conn tag oldtag : ℕ) → list_any (is_waiting conn oldtag) (run before).tables.waiting ≡ true
+    (before : Journal) (conn tag oldtag : ℕ) → list_any (is_waiting conn oldtag) (run before).tables.waiting ≡ true
     → said_after before (flush_of conn tag oldtag) ≡ flushed conn tag ∷ []
 
 -- A Tflush is answered alone: by Rflush where its connection has a session, whatever stood
 -- before, and else by a refusal.
 abbrev pub EachFlushIsAnswered : Type 0
 EachFlushIsAnswered =
-    (before : List Event) (conn tag oldtag : ℕ)
+    (before : Journal) (conn tag oldtag : ℕ)
     → said_after before (flush_of conn tag oldtag)
     ≡ response conn tag (flush_body (is_there (msize_of (run before).tables conn))) ∷ []
 
 -- no read with this tag on this connection waits after a journal
-pub record IsFree (journal : List Event) (conn tag : ℕ) : Type 0 where
+pub record IsFree (journal : Journal) (conn tag : ℕ) : Type 0 where
   pub waiting : list_any (is_waiting conn tag) (run journal).tables.waiting ≡ false
   pub reads : list_any (is_read conn tag) (run journal).scene.book.reads ≡ false
   pub port_reads : list_any (is_read conn tag) (run journal).scene.ports.reads ≡ false
@@ -78,11 +82,12 @@ pub record IsFree (journal : List Event) (conn tag : ℕ) : Type 0 where
 -- nothing is said to that tag, up to the next message of that tag.
 abbrev pub NothingToAFlushedTag : Type 0
 NothingToAFlushedTag =
-    (before behind : List Event) (conn tag oldtag : ℕ) → IsPlayed enabled (before ++ flush_of conn tag oldtag ∷ behind)
+    (before : Journal) (behind : List Event) (conn tag oldtag : ℕ)
+    → AreEnabled (followed before (flush_of conn tag oldtag ∷ behind))
     → Contains (said_after before (flush_of conn tag oldtag)) (flushed conn tag)
     → list_any (is_message conn oldtag) behind ≡ false
-    → IsFree (before ++ flush_of conn tag oldtag ∷ behind) conn oldtag
-    × All (λ x. is_told conn oldtag x ≡ false) (said_from (before ++ flush_of conn tag oldtag ∷ []) behind)
+    → IsFree (followed before (flush_of conn tag oldtag ∷ behind)) conn oldtag
+    × All (λ x. is_told conn oldtag x ≡ false) (said_from (longer before (flush_of conn tag oldtag)) behind)
 
 -- ---- Exec and Look while the event file is open
 
@@ -121,15 +126,15 @@ pub record OnlyTells (old new : State) (heard : List Response) (w : ℕ) (item :
 -- An Exec or a Look in a window whose event file is open is told by the item of that click, and does nothing else.
 abbrev pub ClicksAreTold : Type 0
 ClicksAreTold =
-    (before : List Event) (e : Event) (w : ℕ) → clicked_window e ≡ Some w
+    (before : Journal) (e : Event) (w : ℕ) → clicked_window e ≡ Some w
     → is_open_window (run before).scene.book w ≡ true
-    → OnlyTells (run before) (run (before ++ e ∷ [])) (said_after before e) w
+    → OnlyTells (run before) (run (longer before e)) (said_after before e) w
     (item_of_click (present_after before).scene e)
 
 -- ---- items that are written back
 
 -- the item that an entry writes back, after the entries before it, and whose action it does
-abbrev pub written_by : List Event → Event → Option BackItem
+abbrev pub written_by : Journal → Event → Option BackItem
 written_by before e = (doing_of (present_after before) e).back
 
 -- the life of the item names the entry at which it was written back
@@ -142,15 +147,15 @@ pub record IsBackAt (book : BookState) (b : BackItem) (at : ℕ) : Type 0 where
 -- Whatever comes behind it, the life of an item names the entry that wrote it back.
 abbrev pub LivesNameTheEntry : Type 0
 LivesNameTheEntry =
-    (before behind : List Event) (e : Event) (b : BackItem) → written_by before e ≡ Some b
-    → IsBackAt (run (before ++ e ∷ behind)).scene.book b (length before + 1)
+    (before : Journal) (behind : List Event) (e : Event) (b : BackItem) → written_by before e ≡ Some b
+    → IsBackAt (run (followed before (e ∷ behind))).scene.book b (length before.events + 1)
 
 -- So no later entry writes it back.
 abbrev pub WrittenBackOnce : Type 0
 WrittenBackOnce =
-    (before between : List Event) (e f : Event) (b : BackItem) → written_by before e ≡ Some b
-    → written_by (before ++ e ∷ between) f ≡ Some b → ⊥
+    (before : Journal) (between : List Event) (e f : Event) (b : BackItem) → written_by before e ≡ Some b
+    → written_by (followed before (e ∷ between)) f ≡ Some b → ⊥
 
 -- Between entries no read that waits can be answered: there is nothing for it yet.
 abbrev pub NoReadCanBeAnswered : Type 0
-NoReadCanBeAnswered = (journal : List Event) → IsIdle (run journal).scene.book × ArePortsIdle (run journal).scene.ports
+NoReadCanBeAnswered = (journal : Journal) → IsIdle (run journal).scene.book × ArePortsIdle (run journal).scene.ports

@@ -1,5 +1,5 @@
 -- Undo and Redo of the windows that one step changed, over journals.
-use Rattle.std.specs.Prelude.{◌≡◌, ℕ, Bool, true, false, List, [], ◌∷◌, ◌++◌, map, Option, Some, None, if◌then◌else◌}
+use Rattle.std.specs.Prelude.{◌≡◌, ℕ, Bool, true, false, List, [], ◌∷◌, map, Option, Some, None, if◌then◌else◌}
 use Rattle.std.specs.Option.{option_map}
 use Rattle.acme_cmd.specs.Commands.{classified}
 use Rattle.acme_cmd.specs.declared.command.Builtin.{Builtin}
@@ -28,9 +28,12 @@ use Rattle.core_exec.specs.Clicks.{clicked_at, own_text}
 use Rattle.core_intents.specs.Doings.{doing_of}
 use Rattle.acme_core.specs.Run.{run, present_after}
 use Rattle.core_laws.specs.Laws.{written_by}
+use Rattle.am_journal.specs.declared.event.Journal.{Journal}
+use Rattle.am_journal.specs.Journal.{longer}
+use Rattle.core_laws.specs.Fronts.{followed}
 
 -- What an entry does, after the entries before it, is Undo, or Redo, in this window.
-abbrev pub IsMove : List Event → Event → Move → ℕ → Type 0
+abbrev pub IsMove : Journal → Event → Move → ℕ → Type 0
 IsMove before e m w = (doing_of (present_after before) e).deeds ≡ move_deeds m w (present_after before).scene
 
 -- the window with its next group moved: its text, the groups, and the clean mark
@@ -62,10 +65,11 @@ pub record AreMoved (m : Move) (w : ℕ) (old new : List (Option WindowStory)) :
   pub texts : (v : ℕ) (s : WindowStory) → story_at old v ≡ Some s → TextIsMoved m s
 
 -- so it is at each such entry of a journal
-abbrev pub MovesAreWhole : List Event → Type 0
+abbrev pub MovesAreWhole : Journal → Type 0
 MovesAreWhole journal =
-    (before behind : List Event) (e : Event) (m : Move) (w : ℕ) → before ++ e ∷ behind ≡ journal → IsMove before e m w
-    → AreMoved m w (run before).windows (run (before ++ e ∷ [])).windows
+    (before : Journal) (behind : List Event) (e : Event) (m : Move) (w : ℕ) → followed before (e ∷ behind) ≡ journal
+    → IsMove before e m w
+    → AreMoved m w (run before).windows (run (longer before e)).windows
 
 -- the built-in command of a move
 abbrev pub builtin_of : Move → Builtin
@@ -79,28 +83,28 @@ is_exec sort.TagExec = true
 is_exec other = false
 
 -- Executing Undo, or Redo, is such an entry of a journal.
-pub record MovesAreExecuted (journal : List Event) : Type 0 where
+pub record MovesAreExecuted (journal : Journal) : Type 0 where
   -- An Exec of it in a window whose event file isn't open,
-  pub exec : (before behind : List Event) (at : Spot) (c : Clicked) (m : Move) (r : Range) → before ++ event.Exec at
-      ∷ behind ≡ journal
+  pub exec : (before : Journal) (behind : List Event) (at : Spot) (c : Clicked) (m : Move) (r : Range)
+      → followed before (event.Exec at ∷ behind) ≡ journal
       → is_open_window (present_after before).scene.book at.window ≡ false
       → clicked_at (present_after before).scene.windows at click.Exec ≡ Some c
       → classified (own_text c.text c.expanded) ≡ command.Builtin (builtin_of m) r
       → IsMove before (event.Exec at) m at.window
   -- also one with an argument,
-  pub arg : (before behind : List Event) (at chord : Spot) (c : Clicked) (m : Move) (r : Range) → before
-      ++ event.Arg at chord ∷ behind ≡ journal
+  pub arg : (before : Journal) (behind : List Event) (at chord : Spot) (c : Clicked) (m : Move) (r : Range)
+      → followed before (event.Arg at chord ∷ behind) ≡ journal
       → is_open_window (present_after before).scene.book at.window ≡ false
       → clicked_at (present_after before).scene.windows at click.Exec ≡ Some c
       → classified (own_text c.text c.expanded) ≡ command.Builtin (builtin_of m) r
       → IsMove before (event.Arg at chord) m at.window
   -- and an entry that writes back the item of one.
-  pub back : (before behind : List Event) (e : Event) (w n : ℕ) (item : Item) (m : Move) (r : Range) → before ++ e
-      ∷ behind ≡ journal
+  pub back : (before : Journal) (behind : List Event) (e : Event) (w n : ℕ) (item : Item) (m : Move) (r : Range)
+      → followed before (e ∷ behind) ≡ journal
       → written_by before e ≡ Some (record { window = w; number = n }) → item_of (present_after before).scene.book w n
       ≡ Some item → is_exec item.sort ≡ true
       → classified (own_text item.text item.expanded) ≡ command.Builtin (builtin_of m) r → IsMove before e m w
 
 -- So it is in each journal.
 abbrev pub ExecutedMovesAreMoves : Type 0
-ExecutedMovesAreMoves = (journal : List Event) → MovesAreExecuted journal
+ExecutedMovesAreMoves = (journal : Journal) → MovesAreExecuted journal

@@ -1,5 +1,5 @@
 -- Which refusal a message gets: the first whose condition holds, as the editor stands.
-use Rattle.std.specs.Prelude.{◌≡◌, ℕ, ◌+◌, ◌&&◌, nat_lt, List, ◌∷◌, ◌++◌, Option, Some, None, Result, Ok, Err}
+use Rattle.std.specs.Prelude.{◌≡◌, ℕ, ◌+◌, ◌&&◌, nat_lt, List, ◌∷◌, Option, Some, None, Result, Ok, Err}
 use Rattle.std.specs.Prelude.{if◌then◌else◌}
 use Rattle.ninep_types.specs.declared.message.RBody.{RBody}
 use Rattle.ninep_types.specs.declared.message.RBody.TheVariants as r
@@ -31,6 +31,8 @@ use Rattle.core_intents.specs.Origins.{message_origin}
 use Rattle.core_steps.specs.Stages.{asker_of}
 use Rattle.core_parts.specs.States.{Present}
 use Rattle.acme_core.specs.Run.{present_after}
+use Rattle.am_journal.specs.declared.event.Journal.{Journal}
+use Rattle.core_laws.specs.Fronts.{followed}
 
 -- this refusal, or else a later one
 abbrev pub or_later : Option Refusal → Option Refusal → Option Refusal
@@ -117,11 +119,12 @@ IsRefusedRight s conn msg None = ⊥
 IsRefusedRight s conn msg (Some answer) = IsSaidFor msg.body (refusal_for s conn msg) (reply_of s conn msg.tag answer)
 
 -- So it is with each message of a journal.
-abbrev pub RefusalsAreExact : List Event → Type 0
+abbrev pub RefusalsAreExact : Journal → Type 0
 RefusalsAreExact journal =
-    (before behind : List Event) (conn : ℕ) (msg : TMsg) → before ++ event.Msg conn msg ∷ behind ≡ journal
+    (before : Journal) (behind : List Event) (conn : ℕ) (msg : TMsg)
+    → followed before (event.Msg conn msg ∷ behind) ≡ journal
     → IsRefusedRight (present_after before) conn msg (doing_of (present_after before) (event.Msg conn msg)).answer
 
 -- So it is with each journal.
 abbrev pub RefusalsFollow : Type 0
-RefusalsFollow = (journal : List Event) → RefusalsAreExact journal
+RefusalsFollow = (journal : Journal) → RefusalsAreExact journal

@@ -1,9 +1,10 @@
 -- The replies that a journal makes.
 use Rattle.std.specs.Prelude.{ℕ, ◌==◌, List, [], ◌∷◌, ◌++◌, if◌then◌else◌}
 use Rattle.am_journal.specs.declared.event.Event.{Event}
+use Rattle.am_journal.specs.declared.event.Journal.{Journal}
 use Rattle.core_outputs.specs.declared.reply.Reply.{Reply}
 use Rattle.acme_core.specs.Run.{step}
-use Rattle.core_parts.specs.States.{State, start}
+use Rattle.core_parts.specs.States.{State, start_of}
 
 -- the bytes of those to a connection, one after another
 abbrev pub bytes_to : ℕ → List Reply → List ℕ
@@ -16,5 +17,5 @@ replies_from s [] conn = []
 replies_from s (e ∷ events) conn = bytes_to conn (step s e).replies ++ replies_from (step s e) events conn
 
 -- all replies to a connection
-abbrev pub replies : List Event → ℕ → List ℕ
-replies journal conn = replies_from start journal conn
+abbrev pub replies : Journal → ℕ → List ℕ
+replies journal conn = replies_from (start_of journal.format) journal.events conn

@@ -14,15 +14,17 @@ use Rattle.core_intents.specs.Doings.{doing_of}
 use Rattle.core_parts.specs.Kinds.{kind_of}
 use Rattle.acme_core.specs.Run.{present_after}
 use Rattle.core_steps.specs.Stages.{response, said}
+use Rattle.am_journal.specs.declared.event.Journal.{Journal}
+use Rattle.am_journal.specs.Journal.{longer}
 
 -- what an entry says, after the entries before it
-abbrev pub said_after : List Event → Event → List Response
+abbrev pub said_after : Journal → Event → List Response
 said_after before e = said (present_after before) (kind_of e) (doing_of (present_after before) e)
 
 -- what entries say, each after those before it
-unfoldable pub said_from : List Event → List Event → List Response
+unfoldable pub said_from : Journal → List Event → List Response
 said_from before [] = []
-said_from before (e ∷ events) = said_after before e ++ said_from (before ++ e ∷ []) events
+said_from before (e ∷ events) = said_after before e ++ said_from (longer before e) events
 
 -- whether it is said to a message of this tag on this connection
 abbrev pub is_told : ℕ → ℕ → Response → Bool

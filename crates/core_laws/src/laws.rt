@@ -14,7 +14,6 @@ pub fn replies_are_sent_or_unsent()
 
 /// Once a connection has ended, no entry replies anything to it. So where nothing was unsent then, or later, what was
 /// sent is all that it was ever replied.
-#[tactic(auto, using(crate::proofs::Ends::ended))]
 pub fn ended_connections_get_nothing_more()
     ensures behind { NothingAfterTheHangUp }
     ensures all { EndedGetAllReplies }

@@ -2,7 +2,6 @@
 use Rattle.std.specs.Prelude.{ℕ, ◌+◌, List, [], replicate, Option}
 use Rattle.fid_table.specs.Tables.{Tables, nothing}
 use Rattle.am_journal.specs.declared.event.Format.{Format}
-use Rattle.am_journal.specs.declared.event.Format.TheVariants.{One}
 use Rattle.core_scene.specs.Scenes.{SceneState, no_scene}
 use Rattle.core_windows.specs.Stories.{WindowStory, shown_windows}
 use Rattle.am_journal.specs.Limits.{connection_count}
@@ -59,10 +58,6 @@ start_of format = record {
   unsent = replicate connection_count nothing_unsent;
   replies = [];
 }
-
--- the empty editor of format 1
-abbrev pub start : State
-start = start_of One
 
 -- the format of the journal, by which the limits go
 abbrev pub format_of : Present → Format

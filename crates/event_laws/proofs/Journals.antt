@@ -26,8 +26,13 @@ use Rattle.event_laws.specs.Rreads.{Rread, rreads_of, rreads_from, data_on, deli
 use Rattle.event_laws.specs.Laws.{book_after, rread_to, IsPending, IsDroppedBy, GetsItsItems, Telling, HasItsRread}
 use Rattle.event_laws.specs.Laws.{EachHasItsOwn, EventsAreLawful}
 use Rattle.event_laws.proofs.Steps.{entry, entry_laws}
+use Rattle.am_journal.specs.declared.event.Journal.{Journal}
+use Rattle.am_journal.specs.Journal.{longer, journal_in}
+use Rattle.core_laws.specs.Fronts.{followed}
+use Rattle.core_laws.proofs.Playing.{goes_on, none_more}
+use Rattle.am_journal.specs.declared.event.Format.{Format}
 
-lawful_after : (journal : List Event) → IsLawful (book_after journal)
+lawful_after : (journal : Journal) → IsLawful (book_after journal)
 lawful_after journal = (run_idle journal).lawful
 
 -- ---- what is dropped
@@ -58,7 +63,7 @@ pending_number es zero item is none = none_some (pending item) is
 pending_number es (suc k) item is none = pending_there es k item is none
 
 -- an item pends only while the event file is open
-pending_open : (journal : List Event) (w n : ℕ) (item : Item) → IsPending (book_after journal) w n item
+pending_open : (journal : Journal) (w n : ℕ) (item : Item) → IsPending (book_after journal) w n item
     → is_open_window (book_after journal) w ≡ true
 pending_open journal w n item pends =
     (elim (is_open_window (book_after journal) w) as (λ b. is_open_window (book_after journal) w ≡ b → b ≡ true) [
@@ -67,8 +72,8 @@ pending_open journal w n item pends =
           (((lawful_after journal).files w).closed e))
     ]) refl
 
-dropped : (before : List Event) (e : Event) (w n at : ℕ) (item : Item)
-    → IsDropped (book_after (before ++ e ∷ [])) w n item at → IsDropped (book_after before) w n item at
+dropped : (before : Journal) (e : Event) (w n at : ℕ) (item : Item)
+    → IsDropped (book_after (longer before e)) w n item at → IsDropped (book_after before) w n item at
     ⊎ IsDroppedBy before e w n item at
 dropped before e w n at item is =
     elim ((entry_laws before e).drops w n item at is) [
@@ -78,12 +83,13 @@ dropped before e w n at item is =
 
 -- ---- what ended stays so
 
-stays_from : (before events : List Event) → KeepsEnded (book_after before) (book_after (before ++ events))
-stays_from before [] = subst (λ (l : List Event). KeepsEnded (book_after before) (book_after l))
-    (sym (append-nil before)) (λ w n e is t. is)
+stays_from : (before : Journal) (events : List Event) → KeepsEnded (book_after before)
+    (book_after (followed before events))
+stays_from before [] = subst (λ (l : Journal). KeepsEnded (book_after before) (book_after l))
+    (sym (none_more before)) (λ w n e is t. is)
 stays_from before (e ∷ events) =
-    subst (λ (l : List Event). KeepsEnded (book_after before) (book_after l)) (append_assoc before (e ∷ []) events)
-    (λ w n x is t. stays_from (before ++ e ∷ []) events w n x ((entry_laws before e).stays w n x is t) t)
+    subst (λ (l : Journal). KeepsEnded (book_after before) (book_after l)) (goes_on before e events)
+    (λ w n x is t. stays_from (longer before e) events w n x ((entry_laws before e).stays w n x is t) t)
 
 -- ---- what an opening gets
 
@@ -98,43 +104,46 @@ data_given : (at o : ℕ) (g : Answers) → data_on o (map (rread_to at) g) ≡ 
 data_given at o [] = refl
 data_given at o (a ∷ g) = ap (λ (l : List ℕ). cond (a.0.opening == o) a.1.bytes [] ++ l) (data_given at o g)
 
-gets_entry : (before : List Event) (e : Event) (o : ℕ) (d : List ℕ) → Gets d (file_on (book_after before) o) o
-    → Gets (d ++ data_on o (rreads_of (length before + 1) (said_after before e)))
-    (file_on (book_after (before ++ e ∷ [])) o) o
+gets_entry : (before : Journal) (e : Event) (o : ℕ) (d : List ℕ) → Gets d (file_on (book_after before) o) o
+    → Gets (d ++ data_on o (rreads_of (length before.events + 1) (said_after before e)))
+    (file_on (book_after (longer before e)) o) o
 gets_entry before e o d h =
-    let at : ℕ = length before + 1 in
+    let at : ℕ = length before.events + 1 in
     let same : bytes_to o (entry before e).answers ≡ data_on o (rreads_of at (said_after before e)) =
     sym (data_given at o (entry before e).answers) ∙ ap (data_on o) (entry before e).tells in
-    subst (λ (x : List ℕ). Gets (d ++ x) (file_on (book_after (before ++ e ∷ [])) o) o) same
+    subst (λ (x : List ℕ). Gets (d ++ x) (file_on (book_after (longer before e)) o) o) same
     ((entry_laws before e).gets o d h)
 
-gets_from : (before events : List Event) (o : ℕ) (d : List ℕ) → Gets d (file_on (book_after before) o) o
-    → Gets (d ++ data_on o (rreads_from before events)) (file_on (book_after (before ++ events)) o) o
+gets_from : (before : Journal) (events : List Event) (o : ℕ) (d : List ℕ) → Gets d (file_on (book_after before) o) o
+    → Gets (d ++ data_on o (rreads_from before events)) (file_on (book_after (followed before events)) o) o
 unfolding rreads_from
 gets_from before [] o d h =
-    subst (λ (l : List Event). Gets (d ++ []) (file_on (book_after l) o) o) (sym (append-nil before))
+    subst (λ (l : Journal). Gets (d ++ []) (file_on (book_after l) o) o) (sym (none_more before))
     (subst (λ (x : List ℕ). Gets x (file_on (book_after before) o) o) (sym (append-nil d)) h)
 gets_from before (e ∷ events) o d h =
-    let now : List Rread = rreads_of (length before + 1) (said_after before e) in
-    let later : List Rread = rreads_from (before ++ e ∷ []) events in
-    let rest : Gets ((d ++ data_on o now) ++ data_on o later) (file_on (book_after ((before ++ e ∷ []) ++ events)) o)
+    let now : List Rread = rreads_of (length before.events + 1) (said_after before e) in
+    let later : List Rread = rreads_from (longer before e) events in
+    let rest : Gets ((d ++ data_on o now) ++ data_on o later)
+    (file_on (book_after (followed (longer before e) events)) o)
     o =
-    gets_from (before ++ e ∷ []) events o (d ++ data_on o now) (gets_entry before e o d h)
+    gets_from (longer before e) events o (d ++ data_on o now) (gets_entry before e o d h)
     in
     let whole : (d ++ data_on o now) ++ data_on o later ≡ d ++ data_on o (now ++ later) =
     append_assoc d (data_on o now) (data_on o later) ∙ ap (λ (x : List ℕ). d ++ x) (sym (data_append o now later))
     in
-    subst (λ (l : List Event). Gets (d ++ data_on o (now ++ later)) (file_on (book_after l) o) o)
-    (append_assoc before (e ∷ []) events)
-    (subst (λ (x : List ℕ). Gets x (file_on (book_after ((before ++ e ∷ []) ++ events)) o) o) whole rest)
+    subst (λ (l : Journal). Gets (d ++ data_on o (now ++ later)) (file_on (book_after l) o) o)
+    (goes_on before e events)
+    (subst (λ (x : List ℕ). Gets x (file_on (book_after (followed (longer before e) events)) o) o) whole rest)
 
-begins : (o : ℕ) → Gets [] (file_on (book_after []) o) o
+begins : (format : Format) (o : ℕ) → Gets [] (file_on (book_after (journal_in format [])) o) o
 unfolding run
-begins o = record { missing = []; joined = refl; proper = omega arith; living = λ l. refl }
+begins format o = record { missing = []; joined = refl; proper = omega arith; living = λ l. refl }
 
-gets : (journal : List Event) (o : ℕ) → GetsItsItems journal o
+gets : (journal : Journal) (o : ℕ) → GetsItsItems journal o
 gets journal o =
-    let h : Gets (delivered journal o) (file_on (book_after journal) o) o = gets_from [] journal o [] (begins o) in
+    let h : Gets (delivered journal o) (file_on (book_after journal) o) o =
+    gets_from (journal_in journal.format []) journal.events o [] (begins journal.format o)
+    in
     record {
       missing = h.missing;
       joined = h.joined;
@@ -158,11 +167,11 @@ takes_item owners a = option_map {U = ℕ × ℕ} (λ n. (window_of owners a.0.o
 abbrev told_by : ℕ → List ℕ → Asker × Piece → Telling
 told_by at owners a = record { rread = rread_to at a; takes = takes_item owners a }
 
-told_from : List Event → List Event → List Telling
+told_from : Journal → List Event → List Telling
 told_from before [] = []
 told_from before (e ∷ events) =
-    map (told_by (length before + 1) (book_after (before ++ e ∷ [])).owners) (entry before e).answers
-    ++ told_from (before ++ e ∷ []) events
+    map (told_by (length before.events + 1) (book_after (longer before e)).owners) (entry before e).answers
+    ++ told_from (longer before e) events
 
 map_append : (f : Telling → Rread) (xs ys : List Telling) → map f (xs ++ ys) ≡ map f xs ++ map f ys
 map_append f [] ys = refl
@@ -173,18 +182,19 @@ told_rreads : (at : ℕ) (owners : List ℕ) (g : Answers) → map (λ (t : Tell
 told_rreads at owners [] = refl
 told_rreads at owners (a ∷ g) = ap (λ (l : List Rread). rread_to at a ∷ l) (told_rreads at owners g)
 
-told_all : (before events : List Event) → map (λ (t : Telling). t.rread) (told_from before events) ≡ rreads_from before
+told_all : (before : Journal) (events : List Event) → map (λ (t : Telling). t.rread) (told_from before events)
+    ≡ rreads_from before
     events
 unfolding rreads_from told_from
 told_all before [] = refl
 told_all before (e ∷ events) =
-    let at : ℕ = length before + 1 in
-    let owners : List ℕ = (book_after (before ++ e ∷ [])).owners in
+    let at : ℕ = length before.events + 1 in
+    let owners : List ℕ = (book_after (longer before e)).owners in
     let g : Answers = (entry before e).answers in
-    map_append (λ (t : Telling). t.rread) (map (told_by at owners) g) (told_from (before ++ e ∷ []) events)
-    ∙ ap (λ (l : List Rread). l ++ map (λ (t : Telling). t.rread) (told_from (before ++ e ∷ []) events))
+    map_append (λ (t : Telling). t.rread) (map (told_by at owners) g) (told_from (longer before e) events)
+    ∙ ap (λ (l : List Rread). l ++ map (λ (t : Telling). t.rread) (told_from (longer before e) events))
     (told_rreads at owners g ∙ (entry before e).tells)
-    ∙ ap (λ (l : List Rread). rreads_of at (said_after before e) ++ l) (told_all (before ++ e ∷ []) events)
+    ∙ ap (λ (l : List Rread). rreads_of at (said_after before e) ++ l) (told_all (longer before e) events)
 
 front_get : (xs ys : List Telling) (k : ℕ) (v : Telling) → slice_get xs k ≡ Some v → slice_get (xs ++ ys) k ≡ Some v
 front_get [] ys k v h = absurd (none_some v h)
@@ -243,37 +253,40 @@ told_answer at owners g w n o a item now window h =
       its = record { entry = sym now; on = h.on; count = h.asker.count; front = h.front; some = h.some };
     }
 
-taken_from : (before events : List Event) (w n o at : ℕ) (item : Item)
-    → WasTaken (book_after (before ++ events)) w n item o at
+taken_from : (before : Journal) (events : List Event) (w n o at : ℕ) (item : Item)
+    → WasTaken (book_after (followed before events)) w n item o at
     → WasTaken (book_after before) w n item o at ⊎ HasItsRread (told_from before events) w n item o at
 unfolding told_from
-taken_from before [] w n o at item h = inl (subst (λ (l : List Event). WasTaken (book_after l) w n item o at)
-    (append-nil before) h)
+taken_from before [] w n o at item h = inl (subst (λ (l : Journal). WasTaken (book_after l) w n item o at)
+    (none_more before) h)
 taken_from before (e ∷ events) w n o at item h =
-    let next : List Event = before ++ e ∷ [] in
-    let now : List Telling = map (told_by (length before + 1) (book_after next).owners) (entry before e).answers in
-    elim (taken_from next events w n o at item (subst (λ (l : List Event). WasTaken (book_after l) w n item o at)
-    (sym (append_assoc before (e ∷ []) events)) h)) [
+    let next : Journal = longer before e in
+    let now : List Telling = map (told_by (length before.events + 1) (book_after next).owners) (entry before e).answers
+    in
+    elim (taken_from next events w n o at item (subst (λ (l : Journal). WasTaken (book_after l) w n item o at)
+    (sym (goes_on before e events)) h)) [
       | inl was ↦ elim ((entry_laws before e).takes w n o at item was) [
         | inl earlier ↦ inl earlier
         | inr own ↦ inr (has_front now (told_from next events) w n item o at
-            (told_answer (length before + 1) (book_after next).owners (entry before e).answers w n o at item own.0
+            (told_answer (length before.events + 1) (book_after next).owners (entry before e).answers w n o at item
+            own.0
             ((entry_laws before e).windows w n o at item was) own.1))
       ]
       | inr later ↦ inr (has_back now (told_from next events) w n item o at later)
     ]
 
-no_items : (w n o at : ℕ) (item : Item) → WasTaken (book_after []) w n item o at → ⊥
+no_items : (format : Format) (w n o at : ℕ) (item : Item)
+    → WasTaken (book_after (journal_in format [])) w n item o at → ⊥
 unfolding run
-no_items w zero o at item h = none_some _ h.is
-no_items w (suc n) o at item h = none_some _ h.is
+no_items format w zero o at item h = none_some _ h.is
+no_items format w (suc n) o at item h = none_some _ h.is
 
-own : (journal : List Event) → EachHasItsOwn journal
+own : (journal : Journal) → EachHasItsOwn journal
 own journal = record {
-  told = told_from [] journal;
-  all = told_all [] journal;
-  taken = λ w n o at item h. elim (taken_from [] journal w n o at item h) [
-    | inl was ↦ absurd (no_items w n o at item was)
+  told = told_from (journal_in journal.format []) journal.events;
+  all = told_all (journal_in journal.format []) journal.events;
+  taken = λ w n o at item h. elim (taken_from (journal_in journal.format []) journal.events w n o at item h) [
+    | inl was ↦ absurd (no_items journal.format w n o at item was)
     | inr has ↦ has
   ];
 }
@@ -285,7 +298,7 @@ lawful journal = record {
   calls = λ before after e is. entry before e;
   order = in_order (book_after journal) (lawful_after journal);
   drops = λ before after e is w n at item there. dropped before e w n at item there;
-  stays = λ before prefix. subst (λ (l : List Event). KeepsEnded (book_after before) (book_after l)) prefix.1
+  stays = λ before prefix. subst (λ (l : Journal). KeepsEnded (book_after before) (book_after l)) prefix.1
       (stays_from before prefix.0);
   gets = gets journal;
   windows = λ w n o at item h. taken_window (book_after journal) w n o at item (lawful_after journal) h;

@@ -1,5 +1,5 @@
 -- Each entry does what it does to event files by calls of the book.
-use Rattle.std.proofs.Common.{◌≡◌, ℕ, ◌+◌, List, [], ◌∷◌, ◌++◌, length, map, sym, subst, ap, ◌∙◌, arith}
+use Rattle.std.proofs.Common.{◌≡◌, ℕ, ◌+◌, List, [], length, map, sym, subst, ap, ◌∙◌, arith}
 use Rattle.am_journal.specs.declared.event.Event.{Event}
 use Rattle.event_book.specs.BookState.{BookState}
 use Rattle.book_calls.specs.Calls.{Answers, all_ended, CanEndAll, IsByCalls}
@@ -21,6 +21,8 @@ use Rattle.event_laws.specs.Rreads.{rreads_of}
 use Rattle.event_laws.specs.Laws.{book_after, rread_to, IsByBook}
 use Rattle.event_laws.proofs.Walks.{Walks, grown}
 use Rattle.event_laws.proofs.Ends.{all_end}
+use Rattle.am_journal.specs.declared.event.Journal.{Journal}
+use Rattle.am_journal.specs.Journal.{longer}
 
 record IsStep (at : ℕ) (old new : BookState) (heard : List Response) : Type 0 where
   answers : Answers
@@ -49,26 +51,26 @@ step_of s e =
       tells = w.tells;
     }
 
-pub entry : (before : List Event) (e : Event) → IsByBook before e
+pub entry : (before : Journal) (e : Event) → IsByBook before e
 entry before e =
     let s : State = run before in
     let heard : List Response = said_after before e in
     let one : IsStep (s.entries + 1) s.scene.book (step s e).scene.book heard = step_of s e in
-    let ran : IsStep (s.entries + 1) (book_after before) (book_after (before ++ e ∷ [])) heard =
+    let ran : IsStep (s.entries + 1) (book_after before) (book_after (longer before e)) heard =
     subst (λ (t : State). IsStep (s.entries + 1) s.scene.book t.scene.book heard) (sym (run-push before e)) one
     in
-    let counted : IsStep (length before + 1) (book_after before) (book_after (before ++ e ∷ [])) heard =
-    subst (λ (n : ℕ). IsStep (n + 1) (book_after before) (book_after (before ++ e ∷ [])) heard) (entries_counted before)
+    let counted : IsStep (length before.events + 1) (book_after before) (book_after (longer before e)) heard =
+    subst (λ (n : ℕ). IsStep (n + 1) (book_after before) (book_after (longer before e)) heard) (entries_counted before)
     ran
     in
     record { answers = counted.answers; calls = counted.calls; tells = counted.tells }
 
 -- so the laws of calls hold of it
-pub entry_laws : (before : List Event) (e : Event) → IsLawfulEntry (length before + 1) (book_after before)
-    (book_after (before ++ e ∷ [])) (entry before e).answers
+pub entry_laws : (before : Journal) (e : Event) → IsLawfulEntry (length before.events + 1) (book_after before)
+    (book_after (longer before e)) (entry before e).answers
 entry_laws before e =
     let idle : AreIdle [] (run before).entries (book_after before) = run_idle before in
-    let first : IsBefore (length before + 1) (book_after before) =
+    let first : IsBefore (length before.events + 1) (book_after before) =
     record { lawful = idle.lawful; earlier = omega (arith, idle.latest, entries_counted before) } in
-    lawful (length before + 1) (book_after before) (book_after (before ++ e ∷ [])) (entry before e).answers first
+    lawful (length before.events + 1) (book_after before) (book_after (longer before e)) (entry before e).answers first
     (entry before e).calls

@@ -11,13 +11,15 @@ use Rattle.event_book.specs.Laws.{WindowOrder, IsDropped, KeepsEnded, last_spell
 use Rattle.book_calls.specs.Calls.{Answers, IsByCalls}
 use Rattle.book_calls.specs.Laws.{IsProperEnd, WasTaken}
 use Rattle.am_journal.specs.declared.event.Event.{Event}
-use Rattle.am_counter.specs.Played.{IsPrefix}
 use Rattle.acme_core.specs.Run.{run}
 use Rattle.core_laws.specs.Saying.{said_after}
 use Rattle.event_laws.specs.Rreads.{Rread, rreads_of, rreads, delivered}
+use Rattle.am_journal.specs.declared.event.Journal.{Journal}
+use Rattle.am_journal.specs.Journal.{longer}
+use Rattle.core_laws.specs.Fronts.{followed, IsFront}
 
 -- the items, openings and waiting reads of all event files after a journal
-abbrev pub book_after : List Event → BookState
+abbrev pub book_after : Journal → BookState
 book_after journal = (run journal).scene.book
 
 -- ---- calls of the book alone
@@ -28,13 +30,15 @@ rread_to at answer = record { at = at; opening = answer.0.opening; bytes = answe
 
 -- What an entry does to event files it does by calls of the book, and its Rreads on openings are
 -- what these give, in order.
-pub record IsByBook (before : List Event) (e : Event) : Type 0 where
+pub record IsByBook (before : Journal) (e : Event) : Type 0 where
   pub answers : Answers
-  pub calls : IsByCalls (length before + 1) (book_after before) (book_after (before ++ e ∷ [])) answers
-  pub tells : map (rread_to (length before + 1)) answers ≡ rreads_of (length before + 1) (said_after before e)
+  pub calls : IsByCalls (length before.events + 1) (book_after before) (book_after (longer before e)) answers
+  pub tells : map (rread_to (length before.events + 1)) answers
+      ≡ rreads_of (length before.events + 1) (said_after before e)
 
-abbrev pub EntriesAreCalls : List Event → Type 0
-EntriesAreCalls journal = (before behind : List Event) (e : Event) → before ++ e ∷ behind ≡ journal → IsByBook before e
+abbrev pub EntriesAreCalls : Journal → Type 0
+EntriesAreCalls journal = (before : Journal) (behind : List Event) (e : Event) → followed before (e ∷ behind) ≡ journal
+    → IsByBook before e
 
 -- ---- window order
 
@@ -43,35 +47,36 @@ IsPending s window number item = recorded_of s window number ≡ Some (record { 
 
 -- The life of the item names this entry, behind which the event file of its window is open no more. It was open before,
 -- if the item was pending then.
-pub record IsDroppedBy (before : List Event) (e : Event) (window number : ℕ) (item : Item) (at : ℕ) : Type 0 where
-  pub entry : at ≡ length before + 1
-  pub closed : is_open_window (book_after (before ++ e ∷ [])) window ≡ false
+pub record IsDroppedBy (before : Journal) (e : Event) (window number : ℕ) (item : Item) (at : ℕ) : Type 0 where
+  pub entry : at ≡ length before.events + 1
+  pub closed : is_open_window (book_after (longer before e)) window ≡ false
   pub was_open : IsPending (book_after before) window number item → is_open_window (book_after before) window ≡ true
 
 -- What is dropped behind an entry was so before, or this entry dropped it.
-abbrev pub DroppedAtCloses : List Event → Type 0
+abbrev pub DroppedAtCloses : Journal → Type 0
 DroppedAtCloses journal =
-    (before behind : List Event) (e : Event) → before ++ e ∷ behind ≡ journal → (window number at : ℕ) (item : Item)
-    → IsDropped (book_after (before ++ e ∷ [])) window number item at
+    (before : Journal) (behind : List Event) (e : Event) → followed before (e ∷ behind) ≡ journal
+    → (window number at : ℕ) (item : Item)
+    → IsDropped (book_after (longer before e)) window number item at
     → IsDropped (book_after before) window number item at ⊎ IsDroppedBy before e window number item at
 
 -- What was written back or dropped stays so, with the same entries, whatever comes.
-abbrev pub EndedLivesStay : List Event → Type 0
+abbrev pub EndedLivesStay : Journal → Type 0
 EndedLivesStay journal =
-    (before : List Event) → IsPrefix before journal → KeepsEnded (book_after before) (book_after journal)
+    (before : Journal) → IsFront before journal → KeepsEnded (book_after before) (book_after journal)
 
 -- ---- what an opening gets
 
 -- What an opening was given is what it took, but for what is missing: a proper end of the spelling of its last item;
 -- nothing where it took none. While it is open that is what it has left, and is still to come.
-pub record GetsItsItems (journal : List Event) (opening : ℕ) : Type 0 where
+pub record GetsItsItems (journal : Journal) (opening : ℕ) : Type 0 where
   pub missing : List ℕ
   pub joined : delivered journal opening ++ missing ≡ spelled (book_after journal) opening
   pub proper : IsProperEnd missing (last_spelled opening [] (file_on (book_after journal) opening).items)
   pub living : IsLiving (book_after journal) opening → missing ≡ carry (book_after journal) opening
 
 -- an opening takes items of its own window alone, those of which its spellings are joined
-abbrev pub TakesInItsWindow : List Event → Type 0
+abbrev pub TakesInItsWindow : Journal → Type 0
 TakesInItsWindow journal =
     (window number opening at : ℕ) (item : Item) → WasTaken (book_after journal) window number item opening at
     → window_of (book_after journal).owners opening ≡ window
@@ -99,7 +104,7 @@ pub record HasItsRread (told : List Telling) (window number : ℕ) (item : Item)
   pub its : IsItsRread rread item opening at
 
 -- Each item that was taken has an Rread of the journal. An Rread takes one item at most, so no two items have the same.
-pub record EachHasItsOwn (journal : List Event) : Type 0 where
+pub record EachHasItsOwn (journal : Journal) : Type 0 where
   pub told : List Telling
   pub all : map (λ t. t.rread) told ≡ rreads journal
   pub taken : (window number opening at : ℕ) (item : Item) → WasTaken (book_after journal) window number item opening at
@@ -107,7 +112,7 @@ pub record EachHasItsOwn (journal : List Event) : Type 0 where
 
 -- ---- all of them
 
-pub record EventLaws (journal : List Event) : Type 0 where
+pub record EventLaws (journal : Journal) : Type 0 where
   pub calls : EntriesAreCalls journal
   pub order : WindowOrder (book_after journal)
   pub drops : DroppedAtCloses journal
@@ -117,4 +122,4 @@ pub record EventLaws (journal : List Event) : Type 0 where
   pub own : EachHasItsOwn journal
 
 abbrev pub EventsAreLawful : Type 0
-EventsAreLawful = (journal : List Event) → EventLaws journal
+EventsAreLawful = (journal : Journal) → EventLaws journal

@@ -17,6 +17,9 @@ use Rattle.core_parts.specs.Kinds.{kind_of}
 use Rattle.acme_core.specs.Run.{run, present_after}
 use Rattle.core_laws.specs.Saying.{said_after}
 use Rattle.event_laws.specs.Calls.{calls_at}
+use Rattle.am_journal.specs.declared.event.Journal.{Journal}
+use Rattle.am_journal.specs.Journal.{longer, journal_in}
+use Rattle.core_laws.specs.Fronts.{followed}
 
 -- ---- what an opening is given
 
@@ -35,47 +38,48 @@ abbrev pub data_of : ℕ → List Response → List ℕ
 data_of opening [] = []
 data_of opening (x ∷ xs) = data_in opening x.feed x.message.body ++ data_of opening xs
 
-unfoldable pub given_from : ℕ → List Event → List Event → List ℕ
+unfoldable pub given_from : ℕ → Journal → List Event → List ℕ
 given_from opening before [] = []
 given_from opening before (e ∷ events) =
-    data_of opening (said_after before e) ++ given_from opening (before ++ e ∷ []) events
+    data_of opening (said_after before e) ++ given_from opening (longer before e) events
 
 -- of all Rreads that a journal makes, in order
-abbrev pub given : List Event → ℕ → List ℕ
-given journal opening = given_from opening [] journal
+abbrev pub given : Journal → ℕ → List ℕ
+given journal opening = given_from opening (journal_in journal.format []) journal.events
 
 -- ---- what comes to it
 
 -- the ports after a journal
-abbrev pub ports_after : List Event → PortsState
+abbrev pub ports_after : Journal → PortsState
 ports_after journal = (run journal).scene.ports
 
 -- the calls that an entry makes of them
-abbrev pub calls_of : List Event → Event → List Call
+abbrev pub calls_of : Journal → Event → List Call
 calls_of before e = calls_at (present_after before) (kind_of e) (doing_of (present_after before) e)
 
-unfoldable pub coming_from : ℕ → List Event → List Event → List (List ℕ)
+unfoldable pub coming_from : ℕ → Journal → List Event → List (List ℕ)
 coming_from opening before [] = []
 coming_from opening before (e ∷ events) =
-    all_coming opening (ports_after before) (calls_of before e) ++ coming_from opening (before ++ e ∷ []) events
+    all_coming opening (ports_after before) (calls_of before e) ++ coming_from opening (longer before e) events
 
 -- what its port kept when it joined, and each message that was delivered to its port while it was there
-abbrev pub coming : List Event → ℕ → List (List ℕ)
-coming journal opening = coming_from opening [] journal
+abbrev pub coming : Journal → ℕ → List (List ℕ)
+coming journal opening = coming_from opening (journal_in journal.format []) journal.events
 
 -- ---- the laws
 
 -- What an entry does to ports it does by these calls, and its Rreads on an opening have the data that they give.
-pub record IsByPorts (before : List Event) (e : Event) : Type 0 where
+pub record IsByPorts (before : Journal) (e : Event) : Type 0 where
   pub can : CanCallAll (ports_after before) (calls_of before e)
-  pub ports : after_calls (ports_after before) (calls_of before e) ≡ ports_after (before ++ e ∷ [])
+  pub ports : after_calls (ports_after before) (calls_of before e) ≡ ports_after (longer before e)
   pub gives : (opening : ℕ) → data_of opening (said_after before e)
       ≡ bytes_to opening (all_answers (ports_after before) (calls_of before e))
 
-pub record PortLaws (journal : List Event) : Type 0 where
-  pub calls : (before behind : List Event) (e : Event) → before ++ e ∷ behind ≡ journal → IsByPorts before e
+pub record PortLaws (journal : Journal) : Type 0 where
+  pub calls : (before : Journal) (behind : List Event) (e : Event) → followed before (e ∷ behind) ≡ journal
+      → IsByPorts before e
   pub gets : (opening : ℕ) → GetsItsMessages (given journal opening) (coming journal opening)
       (ports_after journal) opening
 
 abbrev pub PortsAreLawful : Type 0
-PortsAreLawful = (journal : List Event) → PortLaws journal
+PortsAreLawful = (journal : Journal) → PortLaws journal

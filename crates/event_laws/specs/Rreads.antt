@@ -8,6 +8,8 @@ use Rattle.core_events.specs.declared.response.FeedKind.{FeedKind}
 use Rattle.core_events.specs.declared.response.FeedKind.TheVariants.{Events, Port}
 use Rattle.core_events.specs.declared.response.Response.{Response}
 use Rattle.core_laws.specs.Saying.{said_after}
+use Rattle.am_journal.specs.declared.event.Journal.{Journal}
+use Rattle.am_journal.specs.Journal.{longer, journal_in}
 
 -- one: the number of the entry that made it, the opening that was read, and its data
 pub record Rread : Type 0 where
@@ -30,14 +32,14 @@ rreads_of at [] = []
 rreads_of at (x ∷ xs) = rread_in at x.feed x.message.body ++ rreads_of at xs
 
 -- those that entries make, each after those before it
-unfoldable pub rreads_from : List Event → List Event → List Rread
+unfoldable pub rreads_from : Journal → List Event → List Rread
 rreads_from before [] = []
 rreads_from before (e ∷ events) =
-    rreads_of (length before + 1) (said_after before e) ++ rreads_from (before ++ e ∷ []) events
+    rreads_of (length before.events + 1) (said_after before e) ++ rreads_from (longer before e) events
 
 -- all that a journal makes, in order
-abbrev pub rreads : List Event → List Rread
-rreads journal = rreads_from [] journal
+abbrev pub rreads : Journal → List Rread
+rreads journal = rreads_from (journal_in journal.format []) journal.events
 
 -- the joined data of those on an opening
 abbrev pub data_on : ℕ → List Rread → List ℕ
@@ -45,5 +47,5 @@ data_on opening [] = []
 data_on opening (x ∷ xs) = (if x.opening == opening then x.bytes else []) ++ data_on opening xs
 
 -- what an opening was given
-abbrev pub delivered : List Event → ℕ → List ℕ
+abbrev pub delivered : Journal → ℕ → List ℕ
 delivered journal opening = data_on opening (rreads journal)

@@ -10,7 +10,7 @@ use Rattle.am_journal.specs.Lawful.{IsLawful, IsInRange}
 use Rattle.am_text.specs.Front.{after_front}
 use Rattle.am_journal.specs.Line.{dial_line, msg_line, hang_line, took_line, new_line, key_line, sel_line, exec_line}
 use Rattle.am_journal.specs.Line.{arg_line, look_line, file_line, dir_line, line_text, event_of}
-use Rattle.am_journal.specs.Parts.{around}
+use Rattle.am_text.specs.Fields.{around}
 use Rattle.am_journal.proofs.FieldWords.{front-is}
 use Rattle.am_journal.proofs.LineLaws.{line-again, line-is}
 use Rattle.ninep_trace.specs.declared.line.Line.{Line}

@@ -22,7 +22,7 @@ use Rattle.am_journal.specs.Hexadecimal.{hex_digit, hex_of}
 use Rattle.am_journal.specs.Journal.{is_report}
 use Rattle.am_journal.specs.Lawful.{IsLawful, IsInRange}
 use Rattle.am_journal.specs.Line.{line_text}
-use Rattle.am_journal.specs.Parts.{around}
+use Rattle.am_text.specs.Fields.{around}
 use Rattle.am_journal.proofs.FieldWords.{AreVisible, decimal-visible}
 use Rattle.am_journal.proofs.JournalLaws.{AreOneLine, line-no_report, lines_of-journal}
 use Rattle.ninep_trace.specs.declared.line.Line.{Line}

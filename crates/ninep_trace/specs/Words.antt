@@ -14,7 +14,7 @@ use Rattle.am_journal.specs.declared.event.Event.TheVariants as event
 use Rattle.am_journal.specs.Lawful.{AreBytes, IsLawful, IsInRange}
 use Rattle.am_journal.specs.Limits.{connection_count}
 use Rattle.am_journal.specs.Line.{line_text}
-use Rattle.am_journal.specs.Parts.{around}
+use Rattle.am_text.specs.Fields.{around}
 use Rattle.ninep_trace.specs.declared.line.Line.{Line}
 use Rattle.ninep_trace.specs.declared.line.Line.TheVariants as line
 use Rattle.ninep_trace.specs.Fields.{number, text, bytes_in_hex, qid_text, qid_field, quoted, listed}

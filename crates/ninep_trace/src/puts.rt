@@ -3,7 +3,6 @@
 ghost use Rattle.std.specs.Prelude.{◌≡◌, ◌++◌, ◌∷◌, [], OnOk};
 ghost use Rattle.std.specs.Fmt.{decimal};
 ghost use Rattle.std.specs.List.{flat_map};
-ghost use Rattle.am_journal.specs.Parts.{around};
 ghost use Rattle.ninep_trace.specs.Fields.{number, marked, quoted, text, bytes_in_hex, qid_text, qid_field, blank_and};
 ghost use Rattle.ninep_trace.specs.Fields.{listed};
 
@@ -16,22 +15,6 @@ fn put_decimal(alloc: Global, out: &mut Bytes, n: u64) -> Result<(), NoMemory>
     ensures { OnOk result (out.new ≡ out.old ++ decimal n) }
 {
     out.append(decimal(alloc, n)?.as_slice())
-}
-
-/// A number between two texts.
-#[tactic(auto, using(crate::proofs::Joins::joins), unfolding(am_journal::specs::Parts::around))]
-pub(crate) fn put_around(
-    alloc: Global,
-    out: &mut Bytes,
-    before: &[u8],
-    n: u64,
-    after: &[u8],
-) -> Result<(), NoMemory>
-    ensures { OnOk result (out.new ≡ out.old ++ around before.now n after.now) }
-{
-    out.append(before)?;
-    put_decimal(alloc, out, n)?;
-    out.append(after)
 }
 
 #[tactic(auto, using(crate::proofs::Joins::joins), unfolding(crate::specs::Fields::number))]

@@ -6,8 +6,8 @@ ghost use Rattle.ninep_types.specs.Spelling.{spelling_r, Fits_r};
 ghost use Rattle.ninep_trace.specs.Words.{name_r, fields_r, words_r};
 ghost use Rattle.ninep_trace.specs.Reading.{line_of};
 
-use crate::puts::{put_around, put_bytes, put_number, put_qid, put_qids, put_text};
-use am_text::{Bytes, Items, NoMemory};
+use crate::puts::{put_bytes, put_number, put_qid, put_qids, put_text};
+use am_text::{Bytes, Items, NoMemory, put_around};
 use ninep_types::{Qid, RBody, RMsg};
 use std::alloc::Global;
 

@@ -6,8 +6,8 @@ ghost use Rattle.ninep_types.specs.Spelling.{spelling_t, Fits_t};
 ghost use Rattle.ninep_trace.specs.Words.{name_t, fields_t, words_t};
 ghost use Rattle.ninep_trace.specs.Reading.{line_of};
 
-use crate::puts::{put_around, put_bytes, put_names, put_number, put_text};
-use am_text::{Bytes, Items, NoMemory};
+use crate::puts::{put_bytes, put_names, put_number, put_text};
+use am_text::{Bytes, Items, NoMemory, put_around};
 use ninep_types::{TBody, TMsg};
 use std::alloc::Global;
 

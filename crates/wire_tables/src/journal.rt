@@ -8,7 +8,7 @@
 use crate::fault::Fault;
 use crate::fields::{in_one_line, line};
 use am_journal::{
-    ItemView, ItemViews, Job, JobKind, Jobs, Life, View, read_line, report, write_line,
+    Format, ItemView, ItemViews, Job, JobKind, Jobs, Life, View, read_line, report, write_line,
 };
 use am_text::{Bytes, Items, NoMemory, Rune};
 use std::alloc::Global;
@@ -66,6 +66,7 @@ fn requests(alloc: Global) -> Result<Jobs, NoMemory> {
 
 pub fn small_report(alloc: Global) -> Result<Bytes, Fault> {
     let view = View {
+        format: Format::One,
         entries: 8,
         conns: Items::new(alloc),
         windows: Items::new(alloc),

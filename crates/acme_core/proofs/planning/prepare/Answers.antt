@@ -8,7 +8,7 @@ pub returns-then-is_hang-clause-prepared : goal.returns-then-is_hang-clause-prep
 returns-then-is_hang-clause-prepared c =
     let s : Present = present_of c.args.parts.now in
     let none : c.why_not.result ≡ None = search rules in
-    hang_prepared s c.args.journal.now.spare c.args.parts.now c.hanging.result c.args.event
+    hang_prepared s c.args.events.now.spare c.args.parts.now c.hanging.result c.args.event
     (sym c.is_hang.ensures ∙ c.if-is_hang.true) c.requires.lawful
     (sym c.why_not.ensures ∙ none) c.hanging.ensures.event c.hanging.ensures.ready refl c.requires.sound.conns
     c.requires.hangs

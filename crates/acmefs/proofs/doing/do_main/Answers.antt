@@ -33,8 +33,8 @@ returns-clause-does g c = record {
       c.listed.ensures none in
       ap (λ (h : g.row.H.Denot). g.H.Host.told h) (c.do_path-doing.ensures.untouched un.0 un.1))
       c.do_path-doing.ensures.given;
-  empty = c.new.ensures;
-  journal = of_none c.journals_are_lawful.ensures _ c.new.ensures;
+  empty = c.empty_journal.ensures;
+  journal = of_none c.journals_are_lawful.ensures _ c.empty_journal.ensures;
 }
 
 pub returns-clause-unasked : goal.returns-clause-unasked

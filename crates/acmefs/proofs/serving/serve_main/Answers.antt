@@ -1,3 +1,4 @@
+use Rattle.std.proofs.Common.{sym, ◌∙◌}
 use Rattle.am_base.specs.Seen.{given}
 use Rattle.am_slots.specs.Slots.{outside}
 use Rattle.acmefs.proofs.ServeEnds.{of_serve}
@@ -18,3 +19,6 @@ returns-clause-events g c = c.events_are_lawful.ensures _
 
 pub returns-clause-ports : goal.returns-clause-ports
 returns-clause-ports g c = c.ports_are_lawful.ensures _
+
+pub returns-clause-unasked : goal.returns-clause-unasked
+returns-clause-unasked g c = λ none. c.serve.ensures.untouched (sym c.outcome_of.ensures.served ∙ none)

@@ -1,9 +1,25 @@
-use Rattle.std.proofs.Common.{◌≡◌, length, ◌∙◌, subst, arith}
+use Rattle.std.proofs.Common.{◌≡◌, length, sym, ◌∙◌, subst, arith}
 use Rattle.std.proofs.lemmas.Grind.{common_steps}
 use Rattle.am_replay.specs.declared.packing.Did.{Did}
+use Rattle.std.specs.List.{AllByRecursion}
+use Rattle.am_journal.specs.declared.event.Journal.{Journal}
+use Rattle.am_journal.specs.Lawful.{IsLawful, IsInRange}
+use Rattle.am_serve.proofs.Passing.{first_small}
 use Rattle.am_replay.specs.Packing.{DidLine}
-use Rattle.am_replay.proofs.Packings.{goes_on, stops_at, ends_at}
+use Rattle.am_replay.proofs.Packings.{begins, goes_on, stops_at, ends_at}
 use Rattle.am_replay.proofs.packing.read_lines.Goals as goal
+
+pub loop-rest-init : goal.loop-rest-init
+loop-rest-init c =
+    let first = first_small c.split_heading-format.result.0 in
+    record {
+      count = omega (arith, first, c.first_line-k.ensures.number, c.split_heading-format.ensures.shorter);
+      read = begins c.empty_journal-journal.result c.first_line-k.result c.split_heading-format.result.1.now
+          c.args.input.now c.split_heading-format.result.0 c.empty_journal-journal.ensures c.first_line-k.ensures.number
+          c.split_heading-format.ensures.format c.split_heading-format.ensures.rest;
+      lawful = subst (λ (x : Journal). AllByRecursion IsLawful x.events) (sym c.empty_journal-journal.ensures) tt;
+      in_range = subst (λ (x : Journal). AllByRecursion IsInRange x.events) (sym c.empty_journal-journal.ensures) tt;
+    }
 
 pub loop-rest-preserved : goal.loop-rest-preserved
 loop-rest-preserved c =

@@ -1,7 +1,7 @@
-use Rattle.std.proofs.Common.{codes, [], ◌∙◌}
-use Rattle.am_replay.specs.Scripts.{refused_at}
-use Rattle.am_replay.proofs.Ran.{ran_refused, ran_none}
-use Rattle.am_replay.proofs.Traced.{traces_refused, traces_none}
+use Rattle.std.proofs.Common.{codes, ◌∙◌}
+use Rattle.am_replay.specs.Scripts.{none_read, refused_at}
+use Rattle.am_replay.proofs.Ran.{ran_refused, ran_unread}
+use Rattle.am_replay.proofs.Traced.{traces_refused, traces_unread}
 use Rattle.am_replay.proofs.replaying.refuse_input.Goals as goal
 
 pub returns-in-Ok-clause-ran : goal.returns-in-Ok-clause-ran
@@ -12,7 +12,7 @@ returns-in-Ok-clause-ran g c =
 
 pub returns-in-Err-clause-ran : goal.returns-in-Err-clause-ran
 returns-in-Err-clause-ran g c = rw (c.no_events-in-Err.ensures.end, c.no_events-in-Err.ensures.journal)
-    (ran_none _ (g.O.Sink.told c.args.output.now))
+    (ran_unread (refused_at none_read 0 (codes "input")) (g.O.Sink.told c.args.output.now))
 
 pub returns-in-Ok-clause-traces : goal.returns-in-Ok-clause-traces
 returns-in-Ok-clause-traces g c =
@@ -22,4 +22,4 @@ returns-in-Ok-clause-traces g c =
 
 pub returns-in-Err-clause-traces : goal.returns-in-Err-clause-traces
 returns-in-Err-clause-traces g c = rw (c.no_events-in-Err.ensures.end, c.no_events-in-Err.ensures.journal)
-    (traces_none (refused_at [] 0 (codes "input")) (g.O.Sink.told c.args.output.now))
+    (traces_unread (refused_at none_read 0 (codes "input")) (g.O.Sink.told c.args.output.now))

@@ -1,21 +1,24 @@
-use Rattle.std.proofs.Common.{◌≡◌, ◌+◌, [], length, sym, ap, subst, ◌∙◌, arith, List}
+use Rattle.std.proofs.Common.{◌≡◌, ◌+◌, length, sym, ap, subst, ◌∙◌, arith}
 use Rattle.std.proofs.lemmas.Grind.{common_steps}
 use Rattle.am_text.specs.Lines.{lines_of}
-use Rattle.am_journal.specs.declared.event.Event.{Event}
+use Rattle.am_journal.specs.declared.event.Journal.{Journal}
+use Rattle.am_journal.specs.Journal.{first_line}
+use Rattle.am_serve.proofs.Passing.{first_small}
 use Rattle.acme_core.specs.Run.{Editor, settled}
-use Rattle.am_replay.specs.Scripts.{play}
-use Rattle.am_replay.specs.Written.{IsFront}
-use Rattle.am_replay.proofs.Ran.{goes_on, stops_at, ends_at, front_of, wrote_start, wrote_event}
+use Rattle.am_replay.specs.Scripts.{script_behind}
+use Rattle.core_laws.specs.Fronts.{IsFront}
+use Rattle.am_replay.proofs.Ran.{begins, goes_on, stops_at, ends_at, front_of, wrote_start, wrote_event, none_done}
 use Rattle.am_replay.proofs.script.play.Goals as goal
 
 pub loop-rest-init : goal.loop-rest-init
 loop-rest-init g c =
     let e = ap (λ (x : Editor). x.journal) c.requires in
     record {
-      count = omega arith;
+      count = let first = first_small c.format.result in omega (arith, first, c.first_line-k.ensures.number);
       settled = c.requires ∙ ap settled (sym e);
-      script = ap (λ (x : List Event). play x 1 (lines_of c.args.input.now)) e;
-      wrote = wrote_start _ _ e;
+      script = begins c.args.core.now.journal c.first_line-k.result c.args.input.now e
+          (c.first_line-k.ensures.number ∙ ap first_line c.format.ensures);
+      wrote = wrote_start _ _ _ e;
     }
 
 pub loop-rest-preserved : goal.loop-rest-preserved
@@ -51,9 +54,14 @@ returns-in-Refused-clause-stops g c =
 
 pub returns-in-NoMemory-clause-stops : goal.returns-in-NoMemory-clause-stops
 returns-in-NoMemory-clause-stops g c =
-    let P : List Event → Type 0 = λ x. IsFront x (play [] 1 (lines_of c.args.input.now)).events in
+    let P : Journal → Type 0 = λ x. IsFront x
+    (script_behind c.args.core.now.journal.format (lines_of c.args.input.now)).journal in
     subst P (sym c.in-NoMemory.ensures.did) (front_of c.loop-rest.core.journal c.loop-rest.k c.loop-rest.rest.now _
     c.loop-rest.invariant.script)
+
+pub returns-in-NoMemory-clause-shows : goal.returns-in-NoMemory-clause-shows
+returns-in-NoMemory-clause-shows g c = none_done c.loop-rest.core.journal c.do_line.new.core.journal _ _
+    c.in-NoMemory.ensures.did c.loop-rest.invariant.wrote
 
 pub returns-clause-stops : goal.returns-clause-stops
 returns-clause-stops g c =

@@ -1,11 +1,13 @@
-use Rattle.std.proofs.Common.{◌≡◌, ◌+◌, [], length, sym, ap, subst, ◌∙◌, arith, List}
+use Rattle.std.proofs.Common.{◌≡◌, ◌+◌, length, sym, ap, subst, ◌∙◌, arith}
 use Rattle.std.proofs.lemmas.Grind.{common_steps}
 use Rattle.am_text.specs.Lines.{lines_of}
-use Rattle.am_journal.specs.declared.event.Event.{Event}
+use Rattle.am_journal.specs.declared.event.Journal.{Journal}
+use Rattle.am_journal.specs.Journal.{first_line}
+use Rattle.am_serve.proofs.Passing.{first_small}
 use Rattle.acme_core.specs.Run.{Editor, settled}
-use Rattle.am_replay.specs.Scripts.{play}
-use Rattle.am_replay.specs.Written.{IsFront}
-use Rattle.am_replay.proofs.Ran.{goes_on, stops_at, ends_at, front_of}
+use Rattle.am_replay.specs.Scripts.{script_behind}
+use Rattle.core_laws.specs.Fronts.{IsFront}
+use Rattle.am_replay.proofs.Ran.{begins, goes_on, stops_at, ends_at, front_of}
 use Rattle.am_replay.proofs.Traced.{has_last, words_start, words_entry, traced_start, wrote_entry, short_of, none_done}
 use Rattle.am_replay.proofs.tracing.play_words.Goals as goal
 
@@ -13,11 +15,12 @@ pub loop-rest-init : goal.loop-rest-init
 loop-rest-init g c =
     let e = ap (λ (x : Editor). x.journal) c.requires in
     record {
-      count = omega arith;
+      count = let first = first_small c.format.result in omega (arith, first, c.first_line-k.ensures.number);
       settled = c.requires ∙ ap settled (sym e);
-      script = ap (λ (x : List Event). play x 1 (lines_of c.args.input.now)) e;
-      wrote = traced_start _ _ e;
-      worded = words_start _ e;
+      script = begins c.args.core.now.journal c.first_line-k.result c.args.input.now e
+          (c.first_line-k.ensures.number ∙ ap first_line c.format.ensures);
+      wrote = traced_start _ _ _ _ _ e c.put_heading-failed.ensures;
+      worded = words_start _ _ e;
     }
 
 pub entry_text-requires : goal.entry_text-requires
@@ -63,7 +66,8 @@ returns-in-Refused-clause-stops g c =
 
 pub returns-in-NoMemory-clause-stops : goal.returns-in-NoMemory-clause-stops
 returns-in-NoMemory-clause-stops g c =
-    let P : List Event → Type 0 = λ x. IsFront x (play [] 1 (lines_of c.args.input.now)).events in
+    let P : Journal → Type 0 = λ x. IsFront x
+    (script_behind c.args.core.now.journal.format (lines_of c.args.input.now)).journal in
     subst P (sym c.in-NoMemory.ensures.did) (front_of c.loop-rest.core.journal c.loop-rest.k c.loop-rest.rest.now _
     c.loop-rest.invariant.script)
 

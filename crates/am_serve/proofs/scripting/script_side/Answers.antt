@@ -1,30 +1,33 @@
-use Rattle.std.proofs.Common.{◌≡◌, length, arith, sym, subst}
+use Rattle.std.proofs.Common.{◌≡◌, length, arith, refl, sym, ap, subst, ◌∙◌}
 use Rattle.std.proofs.lemmas.Grind.{common_steps}
 use Rattle.am_counter.specs.Known.{Known}
-use Rattle.am_serve.specs.Script.{asked_by_script, Passed}
-use Rattle.am_serve.proofs.Passing.{none_so_far, passes_next, so_far_gains, looks_same, looks_equal, reported, refused}
-use Rattle.am_serve.proofs.Passing.{out, ended}
+use Rattle.am_journal.specs.Journal.{first_line}
+use Rattle.am_serve.specs.Script.{asked_by_script, asked_by_lines, Passed}
+use Rattle.am_serve.proofs.Passing.{first_small, none_so_far, passes_next, so_far_gains, looks_same, looks_equal}
+use Rattle.am_serve.proofs.Passing.{reported, refused, out, ended}
 use Rattle.am_serve.proofs.scripting.script_side.Goals as goal
 
 pub returns-then-not-begin_script-clause-gains : goal.returns-then-not-begin_script-clause-gains
 returns-then-not-begin_script-clause-gains g c =
     let v = g.C.Counter.known c.args.seat.now in
     so_far_gains g.C.Counter.enabled g.C.Counter.answer _ v _ _ _ _
-    (none_so_far g.C.Counter.enabled g.C.Counter.answer v (asked_by_script c.args.script.now.lines.now))
-    (looks_same v)
+    (none_so_far g.C.Counter.enabled g.C.Counter.answer v c.args.script.now.lines.now _ _ refl refl) (looks_same v)
 
 pub returns-then-not-begin_script-clause-ends : goal.returns-then-not-begin_script-clause-ends
 returns-then-not-begin_script-clause-ends g c =
     let v = g.C.Counter.known c.args.seat.now in
-    out g.C.Counter.enabled g.C.Counter.answer _ v _ _ _ _ (none_so_far g.C.Counter.enabled g.C.Counter.answer v
-    (asked_by_script c.args.script.now.lines.now)) (looks_same v)
+    out g.C.Counter.enabled g.C.Counter.answer _ v _ _ _ _
+    (none_so_far g.C.Counter.enabled g.C.Counter.answer v c.args.script.now.lines.now _ _ refl refl) (looks_same v)
 
 pub loop-rest-init : goal.loop-rest-init
 loop-rest-init g c = record {
   fits = c.requires.fits;
-  count = omega arith;
+  count =
+      let first = first_small c.split_heading-format.result.0 in
+      omega (arith, first, c.first_line-line.ensures.number, c.split_heading-format.ensures.shorter);
   so_far = none_so_far g.C.Counter.enabled g.C.Counter.answer (g.C.Counter.known c.args.seat.now)
-      (asked_by_script c.args.script.now.lines.now);
+      c.args.script.now.lines.now _ _ (ap asked_by_lines (sym c.split_heading-format.ensures.rest))
+      (c.first_line-line.ensures.number ∙ ap first_line c.split_heading-format.ensures.format);
 }
 
 pub loop-rest-preserved : goal.loop-rest-preserved

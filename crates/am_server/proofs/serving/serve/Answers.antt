@@ -42,8 +42,9 @@ returns-in-Err-ReadFault-clause-says g c =
       stopped,
       record {
         silent = refl;
-        empty = c.idle.ensures.journal;
+        empty = c.idle.ensures.empty;
         none =
             c.idle.ensures.served;
       },
+      c.idle.ensures.format,
     )

@@ -1,18 +1,35 @@
-use Rattle.std.proofs.lemmas.Result.{err_from_is_err_and}
-use Rattle.std.proofs.Common.{drop, take, ◌+◌}
-use Rattle.am_journal.specs.Journal.{ended_line, journal_text}
-use Rattle.am_server.proofs.Putting.{journal_more, journal_split, stops_more}
+use Rattle.std.proofs.Common.{List, subst, take, refl}
+use Rattle.std.specs.Prelude.{OnOk, IfErr}
+use Rattle.am_base.specs.Seen.{seen}
+use Rattle.am_base.specs.Written.{IsWhole}
+use Rattle.am_journal.specs.declared.event.Event.{Event}
+use Rattle.am_journal.specs.Journal.{events_text}
+use Rattle.am_server.specs.Putting.{StopsIn}
+use Rattle.am_server.proofs.Putting.{events_put, events_stop, heading_cut, heading_put}
 use Rattle.am_server.proofs.texts.put_journal.Goals as goal
 
-pub returns-in_err-put_event-clause-err : goal.returns-in_err-put_event-clause-err
-returns-in_err-put_event-clause-err g c =
-    let p = err_from_is_err_and c.from_residual.result c.from_residual.ensures.1 in
-    let journal = c.args.journal.now in
-    let k = c.loop-event.event-index in
-    let e = c.event-item.result in
-    rw (p.1, p.2)
-    (stops_more c.in_err-put_event.field-0.0 (g.O.Sink.told c.args.output.now) (g.O.Sink.told c.loop-event.output)
-    (g.O.Sink.told c.put_event.new.output)
-    (λ n. journal_text (take n journal)) k (ended_line e) (journal_text (drop (k + 1) journal)) (journal_text journal)
-    (journal_more journal k e c.loop-event-test.true c.event-item.is) (journal_split journal (k + 1))
-    c.loop-event.invariant.put c.loop-event.invariant.later c.in_err-put_event.ensures.err)
+pub returns-in-Ok-clause-ok : goal.returns-in-Ok-clause-ok
+returns-in-Ok-clause-ok g c =
+    events_put c.args.core.now.journal (g.O.Sink.told c.args.output.now) (g.O.Sink.told c.write_all.new.sink)
+    (g.O.Sink.told c.put_events.new.output) c.put_events.result
+    (heading_put c.args.core.now.journal (seen (g.O.Sink.told c.args.output.now) (g.O.Sink.told c.write_all.new.sink))
+    c.heading.result.now c.format.result c.heading.ensures c.format.ensures c.in-Ok.ensures.ok)
+    (subst (λ (l : List Event). OnOk c.put_events.result (IsWhole (seen (g.O.Sink.told c.write_all.new.sink)
+    (g.O.Sink.told c.put_events.new.output)) (events_text l))) c.events.ensures c.put_events.ensures.ok)
+
+pub returns-in-Ok-clause-err : goal.returns-in-Ok-clause-err
+returns-in-Ok-clause-err g c =
+    events_stop c.args.core.now.journal (g.O.Sink.told c.args.output.now) (g.O.Sink.told c.write_all.new.sink)
+    (g.O.Sink.told c.put_events.new.output) c.put_events.result
+    (heading_put c.args.core.now.journal (seen (g.O.Sink.told c.args.output.now) (g.O.Sink.told c.write_all.new.sink))
+    c.heading.result.now c.format.result c.heading.ensures c.format.ensures c.in-Ok.ensures.ok)
+    c.in-Ok.ensures.cause.later
+    (subst (λ (l : List Event). IfErr c.put_events.result (λ s. StopsIn s (seen (g.O.Sink.told c.write_all.new.sink)
+    (g.O.Sink.told c.put_events.new.output)) (events_text l) (λ n. events_text (take n l)))) c.events.ensures
+    c.put_events.ensures.err)
+
+pub returns-in-Err-clause-err : goal.returns-in-Err-clause-err
+returns-in-Err-clause-err g c =
+    heading_cut c.args.core.now.journal (seen (g.O.Sink.told c.args.output.now) (g.O.Sink.told c.write_all.new.sink))
+    c.heading.result.now c.format.result c.heading.ensures c.format.ensures c.in-Err.ensures.err
+    (c.in-Err.ensures.cause.risen refl)

@@ -1,11 +1,9 @@
 use Rattle.std.proofs.lemmas.Result.{err_from_is_err_and}
-use Rattle.std.proofs.Common.{List, ℕ, arith, subst, sym, ap, ◌++◌}
-use Rattle.am_base.specs.Outside.{BytesTold}
+use Rattle.std.proofs.Common.{arith, ◌++◌}
 use Rattle.am_base.specs.Seen.{seen}
 use Rattle.am_base.specs.Written.{IsWhole}
 use Rattle.am_base.proofs.Puts.{whole_then}
 use Rattle.acme_core.specs.Views.{view_of}
-use Rattle.am_journal.specs.declared.event.Event.{Event}
 use Rattle.am_journal.specs.Journal.{journal_text}
 use Rattle.am_journal.specs.Report.{report_text}
 use Rattle.am_server.specs.Texts.{host_text, refusal_text}
@@ -16,9 +14,7 @@ pub returns-in_err-put_report-clause-err : goal.returns-in_err-put_report-clause
 returns-in_err-put_report-clause-err g c =
     let p = err_from_is_err_and c.from_residual-in_err-put_report.result c.from_residual-in_err-put_report.ensures.1 in
     let J : IsWhole (seen (g.O.Sink.told c.args.output.now) (g.O.Sink.told c.put_journal.new.output))
-    (journal_text c.args.core.now.journal) =
-    subst (λ (l : List Event). IsWhole (seen (g.O.Sink.told c.args.output.now) (g.O.Sink.told c.put_journal.new.output))
-    (journal_text l)) c.journal.ensures c.in_ok-put_journal.ensures.ok in
+    (journal_text c.args.core.now.journal) = c.in_ok-put_journal.ensures.ok in
     rw (p.1, p.2)
     (stops_in_report {G = g.row.G.Denot} {L = g.row.L.Denot} {S = g.row.S.Denot} {K = g.row.K.Denot}
     c.args.core.now.journal c.args.slots.now c.args.end c.in_err-put_report.field-0.0
@@ -29,9 +25,7 @@ pub returns-in_err-put_hosts-clause-err : goal.returns-in_err-put_hosts-clause-e
 returns-in_err-put_hosts-clause-err g c =
     let p = err_from_is_err_and c.from_residual-in_err-put_hosts.result c.from_residual-in_err-put_hosts.ensures.1 in
     let J : IsWhole (seen (g.O.Sink.told c.args.output.now) (g.O.Sink.told c.put_journal.new.output))
-    (journal_text c.args.core.now.journal) =
-    subst (λ (l : List Event). IsWhole (seen (g.O.Sink.told c.args.output.now) (g.O.Sink.told c.put_journal.new.output))
-    (journal_text l)) c.journal.ensures c.in_ok-put_journal.ensures.ok in
+    (journal_text c.args.core.now.journal) = c.in_ok-put_journal.ensures.ok in
     let R = whole_then (g.O.Sink.told c.args.output.now) (g.O.Sink.told c.put_journal.new.output)
     (g.O.Sink.told c.put_report.new.output)
     (journal_text c.args.core.now.journal) (report_text (view_of c.args.core.now.journal)) J
@@ -47,9 +41,7 @@ returns-in_err-put_refusal-clause-err g c =
     let p = err_from_is_err_and c.from_residual-in_err-put_refusal.result
     c.from_residual-in_err-put_refusal.ensures.1 in
     let J : IsWhole (seen (g.O.Sink.told c.args.output.now) (g.O.Sink.told c.put_journal.new.output))
-    (journal_text c.args.core.now.journal) =
-    subst (λ (l : List Event). IsWhole (seen (g.O.Sink.told c.args.output.now) (g.O.Sink.told c.put_journal.new.output))
-    (journal_text l)) c.journal.ensures c.in_ok-put_journal.ensures.ok in
+    (journal_text c.args.core.now.journal) = c.in_ok-put_journal.ensures.ok in
     let R = whole_then (g.O.Sink.told c.args.output.now) (g.O.Sink.told c.put_journal.new.output)
     (g.O.Sink.told c.put_report.new.output)
     (journal_text c.args.core.now.journal) (report_text (view_of c.args.core.now.journal)) J
@@ -68,9 +60,7 @@ returns-in_err-put_refusal-clause-err g c =
 pub returns-clause-ok : goal.returns-clause-ok
 returns-clause-ok g c =
     let J : IsWhole (seen (g.O.Sink.told c.args.output.now) (g.O.Sink.told c.put_journal.new.output))
-    (journal_text c.args.core.now.journal) =
-    subst (λ (l : List Event). IsWhole (seen (g.O.Sink.told c.args.output.now) (g.O.Sink.told c.put_journal.new.output))
-    (journal_text l)) c.journal.ensures c.in_ok-put_journal.ensures.ok in
+    (journal_text c.args.core.now.journal) = c.in_ok-put_journal.ensures.ok in
     let R = whole_then (g.O.Sink.told c.args.output.now) (g.O.Sink.told c.put_journal.new.output)
     (g.O.Sink.told c.put_report.new.output)
     (journal_text c.args.core.now.journal) (report_text (view_of c.args.core.now.journal)) J

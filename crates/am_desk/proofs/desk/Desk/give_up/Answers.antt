@@ -1,6 +1,6 @@
 use Rattle.std.proofs.Common.{sym, ap, ◌∙◌}
 use Rattle.turn_lock.specs.Words.{view_of}
-use Rattle.am_desk.specs.Journals.{journal_of, number_of}
+use Rattle.am_desk.specs.Journals.{entries_of, number_of}
 use Rattle.am_desk.proofs.Turns.{has_turn, has_noted, has_number}
 use Rattle.am_desk.proofs.desk.Desk.give_up.Goals as goal
 
@@ -10,7 +10,7 @@ leave-requires-clause-turn c = has_turn c.args.stay.now c.in-Some.stay (view_of 
 
 pub leave-requires-clause-noted : goal.leave-requires-clause-noted
 leave-requires-clause-noted c =
-    ap journal_of c.resume.ensures
+    ap entries_of c.resume.ensures
     ∙ has_noted c.args.stay.now c.in-Some.stay (view_of c.args.place.now) c.requires.stays
     (sym c.take.ensures.value ∙ c.in-Some.is)
 

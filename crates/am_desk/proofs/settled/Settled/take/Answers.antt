@@ -1,4 +1,4 @@
-use Rattle.std.proofs.Common.{◌≡◌, refl, arith}
+use Rattle.std.proofs.Common.{refl, arith}
 use Rattle.am_desk.specs.Journals.{journal_of}
 use Rattle.am_desk.proofs.Past.{nothing_past, not_ended_past}
 use Rattle.am_desk.proofs.settled.Settled.take.Goals as goal
