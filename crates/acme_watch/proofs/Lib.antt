@@ -1,0 +1,13 @@
+pub mod EachLemmas
+pub mod LogLemmas
+pub mod ReadLemmas
+pub mod JobLemmas
+pub mod ServeLemmas
+pub mod LogMoves
+pub mod LogLaws
+pub mod JobMoves
+pub mod LifeLaws
+pub mod LawLemmas
+pub mod TakenLaws
+pub mod AnswerLaws
+pub mod CallLaws
