@@ -1,0 +1,9 @@
+pub mod PlanLemmas
+pub mod BadLemmas
+pub mod NameLemmas
+pub mod LetterLemmas
+pub mod EditLemmas
+pub mod WindowLemmas
+pub mod AddressLemmas
+pub mod LawLemmas
+pub mod FileLemmas
