@@ -25,9 +25,14 @@ from serving import is_listening
 
 from acme9 import wire
 from acme9.connection import MSIZE as MESSAGE_LIMIT
+from acmefs_tools.lines import HEADING
 
 SECONDS = 60
 READ, WRITE, READ_AND_WRITE = wire.OREAD, wire.OWRITE, wire.ORDWR
+# who attaches, here and by the program's own client
+USER, DO_USER = "glenda", "acmefs"
+# a connection that has ended: its slot, its cause, and its user where that is another one
+Ended = Union[Tuple[int, str], Tuple[int, str, str]]
 
 
 # ---- messages, which have tag 1 where it doesn't matter
@@ -38,7 +43,7 @@ def version(msize: int) -> bytes:
 
 
 def attach(fid: int, tree: str = "") -> bytes:
-    return wire.encode("Tattach", 1, fid=fid, afid=wire.NOFID, uname="glenda", aname=tree)
+    return wire.encode("Tattach", 1, fid=fid, afid=wire.NOFID, uname=USER, aname=tree)
 
 
 def walk(fid: int, new_fid: int, names: Sequence[bytes]) -> bytes:
@@ -106,6 +111,13 @@ class Client:
             self.held += piece
             if begin + 4 <= len(self.held):
                 size = int.from_bytes(self.held[begin : begin + 4], "little")
+        return self.held[begin:]
+
+    def takes(self, size: int) -> bytes:
+        """The next bytes, so many or more where more have come; fewer where the server has ended."""
+        begin = len(self.held)
+        while len(self.held) < begin + size and (piece := self.socket.recv(65536)):
+            self.held += piece
         return self.held[begin:]
 
     def start(self) -> bool:
@@ -211,7 +223,7 @@ Does = Union[Callable[[Client], Any], Lines]
 
 
 class Server:
-    """A server, and once it has ended what came of it: the lines of its journal, what it wrote behind
+    """A server, and once it has ended what came of it: the entries of its journal, what it wrote behind
     them, and of each client what it got and whether that was right."""
 
     def __init__(self, path: str, clients: int, script: Optional[bytes] = b"", **how: Any):
@@ -255,7 +267,9 @@ class Server:
         for thread in threads:
             thread.join(SECONDS)
         front, word, back = (b"\n" + (output or b"")).partition(b"\nreport\n")
-        self.journal: List[bytes] = front.split(b"\n")[1:] if word else []
+        lines = front.split(b"\n")[1:] if word else []
+        self.journal: List[bytes] = lines[1:]
+        self.has_heading = not word or lines[:1] == [HEADING.encode()]
         # what stands behind the journal
         self.tail = word[1:] + back if word else output or b""
         return self
@@ -276,13 +290,15 @@ class Server:
             faults.append(f"status {self.process.returncode}, and {status} is wanted")
         if self.errors:
             faults.append(f"{self.errors[:200]!r} on the standard error")
+        if not self.has_heading:
+            faults.append("its journal begins with no heading")
         if self.tail != wanted:
             faults.append(f"{self.tail[:1000]!r} behind the journal, and {wanted[:1000]!r} is wanted")
         return faults
 
     def replay_faults(self) -> List[str]:
         """What a replay of its journal says otherwise."""
-        transcript = b"".join(it + b"\n" for it in self.journal)
+        transcript = b"".join(it + b"\n" for it in (HEADING.encode(), *self.journal))
         ran = subprocess.run([PROGRAM, "replay"], input=transcript, stdout=subprocess.PIPE, timeout=SECONDS)
         replies, word, back = (b"\n" + ran.stdout).partition(b"\nreport\n")
         if ran.returncode != 0 or not word or not self.tail.startswith(word[1:] + back):
@@ -302,17 +318,26 @@ def entries_of(slot: int, done: Sequence[bytes], cause: str) -> List[bytes]:
     return [b"dial %d" % slot, *messages, b"hang %d " % slot + cause.encode()]
 
 
+def user_of(done: Sequence[bytes]) -> str:
+    """The user of a connection on which messages were done."""
+    return USER if attach(0) in done else ""
+
+
 def report(
-    entries: int, ended: Sequence[Tuple[int, str]], windows: Sequence[Tuple[str, str]] = (), items: Sequence[str] = ()
+    entries: int, ended: Sequence[Ended], windows: Sequence[Tuple[str, str]] = (), items: Sequence[str] = ()
 ) -> bytes:
-    """A report: the connections and their causes, and the windows, numbered from 1, with their bodies."""
+    """A report: the connections, their causes and users, and the windows, numbered from 1, with their bodies."""
     lines = ["report", f"journal {entries}", f"connections {len(ended)}"]
-    lines += [f"connection {slot} ended {cause}" for slot, cause in ended]
+    lines += [connection(*it) for it in ended]
     lines.append(f"windows {len(windows)}")
     for number_of_window, (state, body) in enumerate(windows, 1):
         lines += [f"window {number_of_window} {state} :", f"body :{body}"]
     lines += [f"items {len(items)}", *(f"item {it}" for it in items), "requests 0"]
     return "".join(f"{it}\n" for it in lines).encode()
+
+
+def connection(slot: int, cause: str, user: str = USER) -> str:
+    return f"connection {slot} ended {cause} :{user}"
 
 
 def hosts(*slots: int) -> bytes:

@@ -41,6 +41,7 @@ from harness import PROGRAM, TOP, keep_result, store
 
 from acme9 import wire
 from acme9.errors import BadMessage
+from acmefs_tools import lines as lines_of_text
 
 REFERENCE = os.environ.get("ACMEFS_REFERENCE", f"{TOP}/../shared/reference")
 CASES, EXAMPLES, CORPUS = f"{TOP}/tests/cases", f"{TOP}/examples", f"{TOP}/tests/fuzz-corpus"
@@ -52,7 +53,9 @@ SECONDS, SLOW = 60, 2
 # how many refused lines are taken out of a transcript
 REPAIRS = 40
 FEATURES = ("wire-all", "files", "events", "addr", "actions", "edit", "plumb")
-WAITING = 64
+HEADING = lines_of_text.HEADING.encode()
+# how many reads of a connection may wait, in format 1 and in format 2
+WAITING, WAITING_2 = 64, 256
 NUMBERS = [0, 1, 2, 7, 63, 64, 65, 255, 256, 257, 1023, 1024, 1025, 4096, 8192, 65535, 65536, 65560, 65561, 16777216]
 NUMBERS += [it - k for it in (1 << 31, 1 << 32, 1 << 63, 1 << 64) for k in (2, 1, 0)]
 BYTES = [it.encode() for it in ("", "\0", "\n", "é", "\U0001f600", "\\", "'", " ", "\t", "/")]
@@ -141,7 +144,8 @@ class Mutator:
     def mix(self) -> None:
         """All lines of another transcript among these, those of its connections over other ones."""
         shift, mixed, mine = self.rng.choice([0, 1, 1, 2, 63]), [], list(self.lines)
-        theirs = [it for it in (shifted(line, shift) for line in self.other) if it != b"report"]
+        theirs = [it for it in (shifted(line, shift) for line in self.other) if it not in (b"report", HEADING)]
+        mixed += [mine.pop(0)] if mine[:1] == [HEADING] else []
         while mine or theirs:
             is_mine = self.rng.randrange(len(mine) + len(theirs)) < len(mine)
             mixed.append((mine if is_mine else theirs).pop(0))
@@ -309,7 +313,7 @@ def ran(word: str, data: bytes) -> Ran:
 
 
 def done_lines(data: bytes, run: Ran) -> Lines:
-    """The lines of a transcript whose events were done."""
+    """The heading of a transcript, where it has one, and the lines whose events were done."""
     lines = data.split(b"\n")
     if lines[-1] == b"":
         lines.pop()
@@ -317,6 +321,15 @@ def done_lines(data: bytes, run: Ran) -> Lines:
     if refused:
         return lines[: int(refused[1]) - 1]
     return lines[: lines.index(b"report")] if b"report" in lines else lines
+
+
+def has_heading(lines: Lines) -> bool:
+    return lines[:1] == [HEADING]
+
+
+def events_of(lines: Lines) -> Lines:
+    """Lines without a heading."""
+    return lines[1:] if has_heading(lines) else lines
 
 
 def split(output: bytes) -> Tuple[Lines, Lines]:
@@ -338,8 +351,10 @@ def needs(holds: bool, what: str) -> None:
 class Talks:
     """What is known of all connections while the steps of a journal are looked at one after another."""
 
-    def __init__(self) -> None:
+    def __init__(self, most_waiting: int) -> None:
         self.waiting: Dict[Tuple[int, int], int] = {}
+        self.most_waiting = most_waiting
+        self.users: Dict[int, str] = {}
         self.msize: Dict[int, int] = {}
         self.ended: Set[int] = set()
         self.answers: "Counter[Tuple[str, str]]" = Counter()
@@ -391,7 +406,7 @@ class Talks:
         if not own:
             needs(asked.name == "Tread" and asked["count"] > 0, f"a {asked.name} without a reply")
             self.waiting[slot, asked.tag] = asked["count"]
-            needs(sum(it[0] == slot for it in self.waiting) <= WAITING, "too many reads wait")
+            needs(sum(it[0] == slot for it in self.waiting) <= self.most_waiting, "too many reads wait")
             self.answers[asked.name, "waits"] += 1
             return
         needs(len(own) == 1, f"{len(own)} replies to a {asked.name}")
@@ -401,6 +416,8 @@ class Talks:
             needs(len(it["data"]) <= asked["count"], "an Rread of more bytes than were asked for")
         if it.name == "Rwrite":
             needs(it["count"] == len(asked["data"]), "an Rwrite of another count")
+        if it.name == "Rattach":
+            self.users[slot] = asked["uname"]
         if it.name == "Rversion":
             self.msize[slot] = it["msize"]
             needs(256 <= it["msize"] <= min(65560, asked["msize"]), "another msize")
@@ -410,7 +427,7 @@ class Talks:
 def steps(replies: Lines, traced: bytes) -> Iterator[Tuple[bytes, List[Tuple[int, wire.Message, int]]]]:
     """The lines of a trace, each with the replies of its step."""
     left, line, own = iter(replies), b"", []  # type: ignore[var-annotated]
-    for one in split_trace(traced):
+    for one in events_of(split_trace(traced)):
         if one.startswith(b"reply "):
             _, slot, digits = next(left, b"reply 0 00").split(b" ")
             own.append((int(slot), wire.decode(bytes.fromhex(digits.decode())), len(digits) // 2))
@@ -424,15 +441,16 @@ def steps(replies: Lines, traced: bytes) -> Iterator[Tuple[bytes, List[Tuple[int
 
 
 def split_trace(traced: bytes) -> Lines:
-    """The events and replies of a trace, without what stands behind them."""
+    """The heading, events and replies of a trace, without what stands behind them."""
     lines = traced.split(b"\n")[:-1]
     ends = [k for k, it in enumerate(lines) if it == b"report" or REFUSED.fullmatch(it)]
     return lines[: ends[0]] if ends else lines
 
 
 def look_at_steps(lines: Lines, run: Ran, traced: Ran) -> Talks:
-    talks = Talks()
-    replies, _ = split(run.output)
+    talks = Talks(WAITING_2 if has_heading(lines) else WAITING)
+    needs(has_heading(split_trace(traced.output)) == has_heading(lines), "the heading of the trace")
+    lines, (replies, _) = events_of(lines), split(run.output)
     spelled = list(steps(replies, traced.output))
     needs(len(spelled) == len(lines), f"the trace has {len(spelled)} events, and {len(lines)} were done")
     for line, (_, answers) in zip(lines, spelled):
@@ -440,13 +458,16 @@ def look_at_steps(lines: Lines, run: Ran, traced: Ran) -> Talks:
     return talks
 
 
-def look_at_report(lines: Lines, report: Lines) -> None:
-    """Whether a report agrees with the lines that were done."""
+def look_at_report(lines: Lines, report: Lines, users: Dict[int, str]) -> None:
+    """Whether a report agrees with the lines that were done, and with what is known of users."""
+    is_second, lines = has_heading(lines), events_of(lines)
     text = [it.decode("utf-8") for it in report]
     dialled = sorted({int(it.split()[1]) for it in lines if it.startswith(b"dial ")})
     ends = {int(it.split()[1]): it.split(b" ", 2)[2].decode() for it in lines if it.startswith(b"hang ")}
     wanted = ["report", f"journal {len(lines)}", f"connections {len(dialled)}"]
-    wanted += [f"connection {it} {'ended ' + ends[it] if it in ends else 'live'}" for it in dialled]
+    lives = [f"connection {it} {'ended ' + ends[it] if it in ends else 'live'}" for it in dialled]
+    behind = [f" :{lines_of_text.escape(users.get(it, ''))}" if is_second else "" for it in dialled]
+    wanted += [front + it for front, it in zip(lives, behind)]
     needs(text[: len(wanted)] == wanted, "the report's connections")
     rest = text[len(wanted) :]
     count = int(rest[0].split(" ")[1])
@@ -483,7 +504,7 @@ def look_at_items(lines: Lines, rest: List[str]) -> None:
     needs([it.split(" ")[1] for it in asked[1::2]] == [str(k) for k in range(1, count + 1)], "the requests' numbers")
 
 
-def look_at_replays(lines: Lines, run: Ran, traced: Ran) -> None:
+def look_at_replays(lines: Lines, run: Ran, traced: Ran, users: Dict[int, str]) -> None:
     """Whether the lines that were done, and the report, do the same again, and the trace is packed into them."""
     journal = b"".join(it + b"\n" for it in lines)
     first = run if run.status == 0 else ran("replay", journal)
@@ -494,7 +515,7 @@ def look_at_replays(lines: Lines, run: Ran, traced: Ran) -> None:
     needs(again[:2] == first[:2], "the journal and its report give another output")
     packed = ran("pack", b"".join(it + b"\n" for it in split_trace(traced.output)))
     needs((packed.status, packed.output) == (0, journal), "the trace isn't packed into the lines that were done")
-    look_at_report(lines, report)
+    look_at_report(lines, report, users)
 
 
 # ---- lines of do
@@ -570,8 +591,9 @@ class Model:
             self.model, self.gen = acmefs_model, gen
 
     def random(self, rng: random.Random) -> bytes:
-        """A random transcript."""
-        data, _ = self.gen.generate(self.gen.feature_set(rng.choice(FEATURES)), rng.randrange(1 << 30), **self.options)
+        """A random transcript of either format."""
+        how = {"format": rng.choice([1, 2]), **self.options}
+        data, _ = self.gen.generate(self.gen.feature_set(rng.choice(FEATURES)), rng.randrange(1 << 30), **how)
         return bytes(data)
 
     def pack(self, text: bytes) -> Tuple[int, bytes]:
@@ -619,6 +641,7 @@ class Fuzzer:
         if len(other) > LONGEST // 4:
             other = other[: LONGEST // 4]
         lines = Mutator(rng, base.split(b"\n")[:-1], other.split(b"\n")[:-1]).mutate()
+        lines[:0] = [HEADING] if not has_heading(lines) and rng.random() < 0.2 else []
         return self.repaired(rng, b"".join(it + b"\n" for it in lines))
 
     def repaired(self, rng: random.Random, data: bytes) -> bytes:
@@ -645,7 +668,7 @@ class Fuzzer:
         lines = done_lines(data, run)
         try:
             talks = look_at_steps(lines, run, traced)
-            look_at_replays(lines, run, traced)
+            look_at_replays(lines, run, traced, talks.users)
         except (Fault, BadMessage, ValueError, IndexError) as why:
             return f"{type(why).__name__}: {why}"
         if counts:
@@ -670,7 +693,7 @@ class Fuzzer:
         return None if ran("pack", text)[:2] == self.model.pack(text) else "a text in words is packed otherwise"
 
     def count(self, data: bytes, lines: Lines, run: Ran, talks: Talks) -> None:
-        self.counts["events"] += len(lines)
+        self.counts["events"] += len(events_of(lines))
         self.counts["replies"] += len(split(run.output)[0])
         self.counts["refused"] += run.status == 2
         self.counts["slow"] += run.seconds > SLOW

@@ -7,6 +7,8 @@ from typing import Any, Callable, Dict, List
 
 from harness import PROGRAM, SECONDS, Case, call, same, store
 
+from acme9.client import user_name
+
 
 class Room:
     """The folder of a case, and the processes that it starts, which don't outlive it."""
@@ -86,6 +88,11 @@ class Server:
         report, replayed = (it[it.index("report\njournal ") :] for it in (journal, again))
         same(replayed, report, "the replay's report")
         return report.splitlines()
+
+
+def ended(count: int) -> List[str]:
+    """The lines of a report on so many connections, which whoever runs the tests ended."""
+    return [f"connection {it} ended end :{user_name()}" for it in range(count)]
 
 
 def refused(kind: type, words: str, does: Callable[[], object]) -> None:

@@ -13,6 +13,7 @@ from typing import Any, Dict, List, Optional, Tuple, Union
 from harness import PROGRAM, call, same
 
 from acme9 import wire
+from acmefs_tools.lines import HEADING
 
 READ, WRITE, READ_AND_WRITE, TRUNCATE = wire.OREAD, wire.OWRITE, wire.ORDWR, wire.OTRUNC
 # the largest message, and the most that one writes
@@ -35,10 +36,10 @@ def runs_of(data: bytes, most: int) -> List[bytes]:
 
 
 class Transcript:
-    """Lines, and the replies that they must make, in order."""
+    """Lines, and the replies that they must make, in order. With a heading they are of format 2."""
 
-    def __init__(self, takes: bool = True) -> None:
-        self.lines: List[str] = []
+    def __init__(self, takes: bool = True, heading: bool = False) -> None:
+        self.lines: List[str] = [HEADING] if heading else []
         self.wanted: List[Tuple[int, str, Dict[str, Any]]] = []
         self.takes, self.unsent = takes, {it: 0 for it in range(64)}
 
@@ -58,8 +59,16 @@ class Transcript:
         elif answer is not None:
             self.comes(slot, wire.answer_to(name), **answer)
         if self.takes and self.unsent[slot] >= TAKEN_AFTER:
-            self.add(f"took {slot}")
-            self.unsent[slot] = 0
+            self.takes_replies(slot)
+
+    def takes_replies(self, slot: int) -> None:
+        """The replies to a connection that are unsent are taken."""
+        self.add(f"took {slot}")
+        self.unsent[slot] = 0
+
+    def entry(self) -> int:
+        """The number of the last event."""
+        return len(self.lines) - (self.lines[:1] == [HEADING])
 
     def session(self, slot: int = 0, tree: str = "acme", msize: int = MESSAGE_LIMIT) -> None:
         """A connection, whose fid 0 is the root of a tree."""

@@ -1,7 +1,7 @@
 """Texts in one line, transcripts and reports: docs/formats/transcript.md has their lines.
 
     escape("a\\n"), unescape(line)      a text as one line, and back
-    Journal.of(data)                    the events of a transcript, and the report behind them where there is one
+    Journal.of(data)                    the heading and the events of a transcript, and the report behind them
     Report.of(lines)                    what a report says
 """
 
@@ -10,6 +10,8 @@ from dataclasses import dataclass, field
 from typing import Dict, List, Optional, Sequence
 
 INPUT_LIMIT = 16777216
+# the first line of a transcript of format 2
+HEADING = "acmefs 2"
 CONNECTIONS = 64
 ESCAPE = re.compile(r"\\(.?)", re.S)
 PLAIN = {"n": "\n", "\\": "\\"}
@@ -55,8 +57,10 @@ def decoded(data: bytes, name: str) -> str:
 
 @dataclass(frozen=True)
 class Journal:
-    """A transcript: the lines of its events, and those of the report and what stands behind it."""
+    """A transcript: its heading where it has one, the lines of its events, and those of the report and what stands
+    behind it."""
 
+    heading: List[str]
     entries: List[str]
     rest: List[str]
 
@@ -65,8 +69,13 @@ class Journal:
         if len(data) > INPUT_LIMIT:
             raise Fault(f"{name}: it has {len(data)} bytes, and a replay reads at most {INPUT_LIMIT}")
         lines = split_lines(decoded(data, name))
+        begin = 1 if lines[:1] == [HEADING] else 0
         end = lines.index("report") if "report" in lines else len(lines)
-        return cls(lines[:end], lines[end:])
+        return cls(lines[:begin], lines[begin:end], lines[end:])
+
+    def lines(self, count: Optional[int] = None) -> List[str]:
+        """The heading, and so many of the entries; all of them where no number is given."""
+        return [*self.heading, *self.entries[:count]]
 
 
 @dataclass(frozen=True)
@@ -105,10 +114,11 @@ class Request:
 
 @dataclass
 class Report:
-    """What a report says."""
+    """What a report says. The users of connections are there in format 2 alone."""
 
     entries: int = 0
     connections: Dict[int, str] = field(default_factory=dict)
+    users: Dict[int, str] = field(default_factory=dict)
     windows: Dict[int, Window] = field(default_factory=dict)
     items: List[Item] = field(default_factory=list)
     requests: List[Request] = field(default_factory=list)
@@ -127,8 +137,10 @@ class Report:
         if word == "journal":
             self.entries = int(rest)
         elif word == "connection":
-            number, _, life = rest.partition(" ")
-            self.connections[int(number)] = life
+            number, _, told = rest.partition(" ")
+            self.connections[int(number)], colon, user = told.partition(" :")
+            if colon:
+                self.users[int(number)] = unescape(user)
         elif word == "window":
             self._window(matched(WINDOW, line), text_of(following, "body"))
         elif word == "item":

@@ -10,7 +10,7 @@ from typing import Dict, Iterator, List, NamedTuple, Optional, Sequence
 
 from acme9 import wire
 
-from .lines import CONNECTIONS, INPUT_LIMIT, Fault
+from .lines import CONNECTIONS, HEADING, INPUT_LIMIT, Fault, Journal
 from .program import traced
 
 MSIZE = 65560
@@ -119,20 +119,21 @@ class Plain:
             self.report.append(line)
         elif line.startswith("reply "):
             self.replies[-1] = hash((self.replies[-1], line))
-        else:
+        elif line != HEADING:
             self.replies.append(0)
 
 
 class Woven:
     """A journal with reads behind some of its entries, as many of the first as an input has room for."""
 
-    def __init__(self, entries: Sequence[str], wanted: Dict[int, List[str]], count: int, connection: int):
-        self.connection, self.lines, self.origins = connection, [], []  # type: int, List[str], List[int]
-        self.left = dict(wanted)
-        self._room = INPUT_LIMIT - sum(len(line.encode("utf-8")) + 1 for line in entries) - SPARE_ROOM
+    def __init__(self, journal: Journal, wanted: Dict[int, List[str]], count: int, connection: int):
+        self.connection, self.lines, self.left = connection, [*journal.heading], dict(wanted)
+        # of each event its entry in the journal, 0 of one that is added
+        self.origins: List[int] = []
+        self._room = INPUT_LIMIT - sum(len(line.encode("utf-8")) + 1 for line in journal.lines()) - SPARE_ROOM
         reader = Reader(connection)
         self._add(reader.taken())
-        for entry, line in enumerate(entries, 1):
+        for entry, line in enumerate(journal.entries, 1):
             self.lines.append(line)
             self.origins.append(entry)
             if self._has_room(entry):
@@ -155,11 +156,11 @@ class Woven:
         self._room -= sum(len(it) + 1 for it in lines)
 
 
-def gathered(entries: Sequence[str], wanted: Dict[int, List[str]], count: int, plain: Plain) -> Iterator[Read]:
+def gathered(journal: Journal, wanted: Dict[int, List[str]], count: int, plain: Plain) -> Iterator[Read]:
     """What files hold after entries, in the order of the entries: of each its first bytes, `count` at most."""
-    connection, left = unused_connection(entries), wanted
+    connection, left = unused_connection(journal.entries), wanted
     while left:
-        woven = Woven(entries, left, count, connection)
+        woven = Woven(journal, left, count, connection)
         yield from answers(woven, plain)
         left = woven.left
 
@@ -177,7 +178,7 @@ def answers(woven: Woven, plain: Plain) -> Iterator[Read]:
             report.append(line)
         elif line.startswith("reply "):
             seen.note(line)
-        else:
+        elif line != HEADING:
             place += 1
             if woven.origins[place]:
                 seen.note(line)
@@ -204,7 +205,7 @@ def without(report: Sequence[str], woven: Woven) -> Iterator[str]:
             yield f"connections {int(rest) - 1}"
         elif word == "item":
             yield WHEN.sub(lambda it: it[1] + it[2] + as_before(it[2], it[3], woven.origins) + it[4], line)
-        elif word != "connection" or rest != f"{woven.connection} live":
+        elif word != "connection" or rest.partition(" :")[0] != f"{woven.connection} live":
             yield line
 
 

@@ -30,7 +30,7 @@ from .program import traced
 from .reads import MOST_READ, Reader, data_of, unused_connection
 
 RAW = re.compile(
-    r"(?:dial|msg|hang|took|new|key|sel|exec|arg|file|dir|report|await)(?: .*)?|look \d+ (?:body|tag) \d+ \d+", re.S
+    r"acmefs 2|(?:dial|msg|hang|took|new|key|sel|exec|arg|file|dir|report|await)(?: .*)?|look \d+ (?:body|tag) \d+ \d+", re.S
 )
 QUOTED = re.compile(r'"((?:[^"\\]|\\.)*)"(?: (\d+))?')
 MARK = re.compile(r"\\(.)", re.S)
@@ -284,7 +284,7 @@ def write(words: List[str]) -> int:
         after, words = (words[1] if len(words) > 1 else ""), words[2:]
     if after == "" or len(words) > 1 or any(it.startswith("-") and it != "-" for it in words):
         raise BadWords("one file of words is named at most, and behind --after a journal")
-    before = Journal.of(content(after), after).entries if after else []
+    before = Journal.of(content(after), after).lines() if after else []
     for line in written(split_lines(decoded(content(words[0] if words else None), "the words")), before):
         sys.stdout.write(f"{line}\n")
     return 0

@@ -113,7 +113,7 @@ def told(journal: Journal, step: Steps) -> Story:
     story, teller = Story(), Teller()
 
     def noted() -> Iterator[str]:
-        for line in traced(journal.entries):
+        for line in traced(journal.lines()):
             story.plain.note(line)
             yield line
 
@@ -132,7 +132,7 @@ def indexes(journal: Journal, story: Story, step: Steps) -> Dict[int, Dict[int, 
     """The second: the live windows, with their tags, after each entry that may change them."""
     wanted = {it: ["index"] for it, touch in story.touches.items() if not touch.dot_alone}
     found: Dict[int, Dict[int, Shown]] = {}
-    for read in gathered(journal.entries, wanted, MOST_READ, story.plain):
+    for read in gathered(journal, wanted, MOST_READ, story.plain):
         found[read.entry] = dict(index_of(read.data or b""))
         step(1)
     story.reads += len(wanted)
@@ -167,7 +167,7 @@ Bodies = Dict[int, bytes]
 def bodies(journal: Journal, story: Story, wanted: Dict[int, List[str]], step: Steps) -> Iterator[Tuple[int, Bodies]]:
     """The third: bodies after the entries that may have changed them, in order."""
     held, entry = {}, 0  # type: Bodies, int
-    for read in gathered(journal.entries, wanted, SHOWN, story.plain):
+    for read in gathered(journal, wanted, SHOWN, story.plain):
         if read.entry != entry and held:
             yield entry, held
             held = {}
@@ -188,9 +188,9 @@ def chosen(entries: Sequence[int], most: int) -> List[int]:
 
 def fronts(journal: Journal, story: Story, step: Steps) -> Iterator[Tuple[int, Front]]:
     """What the reports on fronts of the journal say, in order; several are made at a time."""
-    data = transcript(journal.entries)
-    ends, last = [0], 0
-    for line in journal.entries:
+    data, last = transcript(journal.lines()), len(transcript(journal.heading))
+    ends = [last]
+    for _ in journal.entries:
         last = data.index(b"\n", last) + 1
         ends.append(last)
 

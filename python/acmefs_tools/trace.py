@@ -6,7 +6,7 @@ from typing import Any, Callable, Dict, Iterable, Iterator, List, NamedTuple, Op
 
 from acme9.wire import Message, Qid
 
-from .lines import Fault
+from .lines import HEADING, Fault
 
 LINE = re.compile(r"(msg|reply) (\d+) ([TR][a-z]+) tag=(\d+)(.*)", re.S)
 FIELD = re.compile(r" ([a-z]+)=('[^']*'|[^ ]*)((?: '[^']*'| [0-9.]+)*)")
@@ -82,7 +82,7 @@ class Trace:
                 self.report.append(it)
             elif it.startswith("reply "):
                 replies.append(self._reply(it))
-            else:
+            elif it != HEADING:
                 if entry:
                     yield Step(entry, line, spoken(line), replies)
                 entry, line, replies = entry + 1, it, []

@@ -58,7 +58,7 @@ class Progress:
 def lines(journal: Journal, numbered: bool) -> Iterator[str]:
     """A line for each operation, and for each answer that comes later. That replies are taken isn't told."""
     teller = Teller()
-    for step in Trace(traced(journal.entries)):
+    for step in Trace(traced(journal.lines())):
         told = teller.tell(step)
         front = f"{told.entry:7} " if numbered else ""
         if not told.words.startswith("takes "):
