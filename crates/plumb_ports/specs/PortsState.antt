@@ -108,6 +108,10 @@ after_deliver s name message = delivered_on (number_of s.ports name) s message
 abbrev pub is_ready : List Inbox → Asker → Bool
 is_ready openings r = not (must_wait (inbox_of openings r.opening) r.count)
 
+-- none of the reads can be answered
+abbrev pub AreIdle : List Inbox → List Asker → Type 0
+AreIdle openings reads = find (is_ready openings) reads ≡ None
+
 -- whether a read has to wait
 abbrev pub read_waits : PortsState → Asker → Bool
 read_waits s r = must_wait (inbox_of s.openings r.opening) r.count

@@ -71,6 +71,8 @@ pub struct Ports {
     reads: Reads,
     // Whether the present state may differ from the kept one.
     changed: bool,
+    // Whether it is known that no waiting read can be answered.
+    idle: bool,
 }
 
 // By hand, so that a crate that drops ports goes by this drop, and has not to prove those of all that is in them.
@@ -84,6 +86,7 @@ impl Drop for Ports {
             kept_joined: _,
             reads: _,
             changed: _,
+            idle: _,
         } = self;
     }
 }
@@ -99,10 +102,12 @@ impl Model for Ports {
       kept = record { ports = p.table.kept; openings = p.openings.kept; joined = p.kept_joined; reads = p.reads.kept };
     } };
 
-    ghost use Rattle.std.specs.Prelude.{◌≡◌, false};
+    ghost use Rattle.std.specs.Prelude.{◌≡◌, true, false};
+    ghost use Rattle.plumb_ports.specs.PortsState.{AreIdle};
 
-    ghost invariant = { λ p. p.changed ≡ false → (p.table.present ≡ p.table.kept)
-        × (p.openings.present ≡ p.openings.kept) × (p.joined ≡ p.kept_joined) × (p.reads.present ≡ p.reads.kept) };
+    ghost invariant = { λ p. (p.changed ≡ false → (p.table.present ≡ p.table.kept)
+        × (p.openings.present ≡ p.openings.kept) × (p.joined ≡ p.kept_joined) × (p.reads.present ≡ p.reads.kept))
+        × (p.idle ≡ true → AreIdle p.openings.present p.reads.present) };
 }
 
 impl Ports {
@@ -118,6 +123,7 @@ impl Ports {
             kept_joined: 0,
             reads: Reads::new(alloc),
             changed: false,
+            idle: true,
         })
     }
 
@@ -144,6 +150,7 @@ impl Ports {
             self.joined = self.kept_joined;
             self.reads.back();
             self.changed = false;
+            self.idle = false;
         }
     }
 
@@ -240,6 +247,7 @@ impl Ports {
         ensures err { OnErr result (self.new.kept ≡ self.old.kept) }
     {
         self.changed = true;
+        self.idle = false;
         self.openings.join(port, opening, self.table.kept(port))?;
         self.table.empty(port)?;
         self.joined += 1;
@@ -293,6 +301,7 @@ impl Ports {
         ensures err { OnErr result (self.new.kept ≡ self.old.kept) }
     {
         self.changed = true;
+        self.idle = false;
         if self.openings.has_port(port) {
             return self.openings.deliver(port, message);
         }
@@ -337,6 +346,7 @@ impl Ports {
         ensures err { OnErr result (self.new.kept ≡ self.old.kept) }
     {
         self.changed = true;
+        self.idle = false;
         self.openings.give(asker.opening, asker.count)
     }
 
@@ -353,6 +363,7 @@ impl Ports {
     {
         if self.must_wait(asker) {
             self.changed = true;
+            self.idle = false;
             return match self.reads.push(asker) {
                 Ok(()) => Ok(Asked::Waits),
                 Err(error) => {
@@ -374,6 +385,9 @@ impl Ports {
     pub fn next(&self) -> Option<Asker>
         ensures { result ≡ next_of self.now.present }
     {
+        if self.idle {
+            return None;
+        }
         self.reads.ready(&Offer {
             openings: &self.openings,
         })
@@ -384,6 +398,7 @@ impl Ports {
         ensures { self.new ≡ record self.old { present = without_next self.old.present } }
     {
         self.changed = true;
+        self.idle = false;
         let offer = Offer {
             openings: &self.openings,
         };
@@ -391,13 +406,14 @@ impl Ports {
     }
 
     /// Answers the oldest waiting read over all ports that can be answered. None exactly where there
-    /// is none.
+    /// is none. It looks at no read where it is known that none can be answered.
     pub fn serve(&mut self) -> Result<Option<(Asker, Piece)>, NoMemory>
         ensures answer { IfOk result (λ served. served ≡ served_of self.old.present) }
         ensures ok { OnOk result (self.new ≡ record self.old { present = after_serve self.old.present }) }
         ensures err { OnErr result (self.new ≡ both self.old.kept) }
     {
         let Some(asker) = self.next() else {
+            self.idle = true;
             return Ok(None);
         };
         self.take_next();
@@ -417,6 +433,7 @@ impl Ports {
         ensures waited { result ≡ list_any (is_read conn tag) self.old.present.reads }
         ensures new { self.new ≡ both (after_cancel self.old.present conn tag) }
     {
+        self.idle = false;
         self.reads.cancel(conn, tag)
     }
 
@@ -426,6 +443,7 @@ impl Ports {
         requires { IsSteady self.old }
         ensures { self.new ≡ both (after_leave self.old.present opening) }
     {
+        self.idle = false;
         self.openings.leave(opening);
         self.reads.remove_on(opening);
     }

@@ -22,7 +22,8 @@ use Rattle.plumb_rules.specs.Laws.{may_change_data, DataAreKept}
 use Rattle.plumb_rules.specs.Patterns.{pattern_of, is_whole}
 use Rattle.plumb_rules.specs.Routes.{and_then, begun, spelled, rule_holds, rules_hold, with_dst, route_in, route_at}
 use Rattle.plumb_rules.specs.Routes.{set_route}
-use Rattle.plumb_rules.specs.Texts.{field_text, with_field, whole_name, data_name, argument_text}
+use Rattle.plumb_rules.specs.Fields.{field_text, with_field}
+use Rattle.plumb_rules.specs.Texts.{whole_name, data_name, argument_text}
 use Rattle.plumb_rules.specs.Verbs.{Nodes, is_text, set, with_match, whole_data, click_data, data_matches}
 use Rattle.plumb_rules.specs.Verbs.{field_matches, tree_matches, pattern_matches, matches, isfile, isdir}
 use Rattle.plumb_rules.specs.Verbs.{with_attributes, delete, to, verb_done, rule_done}

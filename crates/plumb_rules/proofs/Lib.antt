@@ -1,3 +1,4 @@
+pub mod Drafting
 pub mod Expressions
 pub mod Further
 pub mod Kept

@@ -23,7 +23,8 @@ use Rattle.plumb_rules.specs.declared.attributes.Click.TheVariants.{Absent, Unre
 use Rattle.plumb_rules.specs.declared.state.State.{State}
 use Rattle.plumb_rules.specs.Patterns.{expression_of, small_one, pattern_of, is_whole}
 use Rattle.plumb_rules.specs.Refused.{IsRefused}
-use Rattle.plumb_rules.specs.Texts.{field_text, argument_text}
+use Rattle.plumb_rules.specs.Fields.{field_text}
+use Rattle.plumb_rules.specs.Texts.{argument_text}
 use Rattle.plumb_rules.specs.Unchanged.{keeps_message}
 use Rattle.plumb_rules.specs.Verbs.{whole_data, click_data, data_matches, field_matches, tree_matches, pattern_matches}
 use Rattle.plumb_rules.specs.Verbs.{matches, verb_done, with_match}

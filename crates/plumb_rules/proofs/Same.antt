@@ -16,7 +16,8 @@ use Rattle.rule_syntax.specs.declared.rule.Verb.TheVariants as verb
 use Rattle.plumb_rules.specs.Attributes.{click_of, is_absent}
 use Rattle.plumb_rules.specs.Patterns.{pattern_of, is_whole}
 use Rattle.plumb_rules.specs.Routes.{and_then, spelled, rule_holds}
-use Rattle.plumb_rules.specs.Texts.{field_text, whole_name, data_name, argument_text}
+use Rattle.plumb_rules.specs.Fields.{field_text}
+use Rattle.plumb_rules.specs.Texts.{whole_name, data_name, argument_text}
 use Rattle.plumb_rules.specs.Verbs.{Nodes, is_text, whole_data, data_matches, field_matches, tree_matches, matches}
 use Rattle.plumb_rules.specs.Verbs.{isfile, isdir, to, with_match, click_data, pattern_matches, verb_done, rule_done}
 use Rattle.plumb_rules.specs.Unchanged.{keeps_message}

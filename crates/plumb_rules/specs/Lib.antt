@@ -1,5 +1,6 @@
 pub mod Attributes
 pub mod Drafts
+pub mod Fields
 pub mod Laws
 pub mod Matches
 pub mod Patterns

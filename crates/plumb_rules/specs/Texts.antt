@@ -1,34 +1,18 @@
--- Texts of a message while rules are done: of its fields, of variables, and of arguments.
+-- Texts of a message while rules are done: of names, of variables, and of arguments.
 use Rattle.std.specs.Prelude.{ℕ, Bool, false, nat_lt, List, [], ◌∷◌, length, slice_range, Option, Some, None}
 use Rattle.std.specs.Fmt.{decimal}
 use Rattle.std.specs.List.{flat_map, list_any}
 use Rattle.acme_cmd.specs.Names as names
-use Rattle.am_text.specs.Utf8.{decode, utf8}
+use Rattle.am_text.specs.Utf8.{decode}
 use Rattle.am_text.specs.declared.range.Range.{Range}
 use Rattle.plumb_msg.specs.Spelling.{attrs_text}
 use Rattle.plumb_msg.specs.declared.message.PlumbMsg.{PlumbMsg}
-use Rattle.rule_syntax.specs.declared.rule.Field.{Field}
-use Rattle.rule_syntax.specs.declared.rule.Field.TheVariants.{Src, Dst, Wdir, Sort, Data}
 use Rattle.rule_syntax.specs.declared.rule.Late.{Late}
 use Rattle.rule_syntax.specs.declared.rule.Late.TheVariants as late
 use Rattle.rule_syntax.specs.declared.rule.Piece.{Piece}
 use Rattle.rule_syntax.specs.declared.rule.Piece.TheVariants as piece
 use Rattle.plumb_rules.specs.Matches.{Match, range_of}
 use Rattle.plumb_rules.specs.declared.state.State.{State}
-
-abbrev pub field_text : PlumbMsg → Field → List ℕ
-field_text m Src = decode m.src
-field_text m Dst = decode m.dst
-field_text m Wdir = decode m.wdir
-field_text m Sort = decode m.sort
-field_text m Data = decode m.body
-
-abbrev pub with_field : PlumbMsg → Field → List ℕ → PlumbMsg
-with_field m Src text = record m { src = utf8 text }
-with_field m Dst text = record m { dst = utf8 text }
-with_field m Wdir text = record m { wdir = utf8 text }
-with_field m Sort text = record m { sort = utf8 text }
-with_field m Data text = record m { body = utf8 text }
 
 -- a name made whole with the message's wdir
 abbrev pub whole_name : PlumbMsg → List ℕ → List ℕ

@@ -17,7 +17,8 @@ use Rattle.rule_syntax.specs.declared.rule.Verb.{Verb}
 use Rattle.rule_syntax.specs.declared.rule.Verb.TheVariants as verb
 use Rattle.plumb_rules.specs.Attributes.{with_attrs, without_attr, click_of, unclicked}
 use Rattle.plumb_rules.specs.Patterns.{pattern_of, is_whole, click_span, matched}
-use Rattle.plumb_rules.specs.Texts.{field_text, with_field, whole_name, data_name, argument_text}
+use Rattle.plumb_rules.specs.Fields.{field_text, with_field}
+use Rattle.plumb_rules.specs.Texts.{whole_name, data_name, argument_text}
 use Rattle.plumb_rules.specs.declared.answer.Way.{Way}
 use Rattle.plumb_rules.specs.declared.answer.Way.TheVariants.{Start, Client}
 use Rattle.plumb_rules.specs.declared.attributes.Click.{Click}

@@ -4,6 +4,7 @@
 mod answer;
 mod attributes;
 mod draft;
+mod fields;
 mod laws;
 mod matched;
 mod matching;

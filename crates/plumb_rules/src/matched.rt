@@ -6,22 +6,23 @@ ghost use Rattle.re_syntax.specs.Tree.{tree};
 ghost use Rattle.plumb_rules.specs.Matches.{range_at, range_of};
 ghost use Rattle.plumb_rules.specs.Patterns.{matched, IsMatchIn};
 
-use am_text::{NoMemory, Range, Rune, Runes};
+use crate::fields::FieldText;
+use am_text::{NoMemory, Range, Rune};
 use re_spans::groups;
 use re_syntax::{Groups, Re};
 use std::alloc::Global;
 use std::marker::Model;
 
 /// A match of a text. Contracts see it with the ranges of its groups, which are found once an argument has one of them.
-pub struct Matched {
+pub struct Matched<'a> {
     re: Re,
-    text: Runes,
+    text: FieldText<'a>,
     range: Range,
     groups: Option<Groups>,
 }
 
 // By hand, so that the drop of a tree isn't proved again.
-impl Drop for Matched {
+impl<'a> Drop for Matched<'a> {
     fn drop(self) {
         let Matched {
             re: _,
@@ -32,7 +33,7 @@ impl Drop for Matched {
     }
 }
 
-impl Model for Matched {
+impl<'a> Model for Matched<'a> {
     ghost use Rattle.re_syntax.specs.Tree.{tree};
     ghost use Rattle.plumb_rules.specs.Matches.{Match};
     ghost use Rattle.plumb_rules.specs.Patterns.{matched, AreKnown};
@@ -54,11 +55,11 @@ fn range_at(ranges: &[Option<Range>], number: usize) -> Option<Range>
     }
 }
 
-impl Matched {
+impl<'a> Matched<'a> {
     /// A match inside a text.
-    pub fn new(re: Re, text: Runes, range: Range) -> Matched
+    pub fn new(re: Re, text: FieldText<'a>, range: Range) -> Self
         requires { IsMatchIn (tree re) text range }
-        ensures { result ≡ matched (tree re) text range }
+        ensures { result ≡ matched (tree re) text.entry range }
     {
         Matched {
             re,
@@ -73,7 +74,7 @@ impl Matched {
         ensures { OnOk result (self.new ≡ self.old) }
     {
         if self.groups.is_none() {
-            let found = groups(alloc, &self.re, &self.text, self.range)?;
+            let found = groups(alloc, &self.re, self.text.get(), self.range)?;
             self.groups = Some(found);
         }
         Ok(())
@@ -85,7 +86,7 @@ impl Matched {
         match &self.groups {
             Some(all) => Ok(range_at(all.as_slice(), number)),
             None => {
-                let all = groups(alloc, &self.re, &self.text, self.range)?;
+                let all = groups(alloc, &self.re, self.text.get(), self.range)?;
                 Ok(range_at(all.as_slice(), number))
             }
         }
@@ -105,6 +106,6 @@ impl Matched {
     pub fn text(&self) -> &[Rune]
         ensures { result.now ≡ self.now.text }
     {
-        self.text.as_slice()
+        self.text.get().as_slice()
     }
 }

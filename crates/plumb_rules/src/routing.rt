@@ -2,9 +2,11 @@
 
 ghost use Rattle.std.specs.Prelude.{◌≡◌, true, IfOk};
 ghost use Rattle.plumb_msg.specs.Spelling as spelling;
+ghost use Rattle.plumb_rules.specs.Fields.{texts_of};
 ghost use Rattle.plumb_rules.specs.Routes.{sets_route, own_route, rules_route, route_of};
 
 use crate::answer::{Route, Way};
+use crate::fields::{FieldTexts, texts_of};
 use crate::message::copied_msg;
 use crate::sets::set_route;
 use am_text::{Bytes, NoMemory};
@@ -19,13 +21,15 @@ fn sets_route(
     alloc: Global,
     tree: &Tree,
     msg: &PlumbMsg,
+    texts: &FieldTexts,
     sets: &[Rules],
 ) -> Result<Option<Route>, NoMemory>
-    requires { spelling.can_spell msg.now ≡ true }
+    requires spelled { spelling.can_spell msg.now ≡ true }
+    requires texts { texts.now ≡ texts_of msg.now }
     ensures { IfOk result (λ r. r ≡ sets_route tree.now.present msg.now sets.now) }
 {
     for rules in sets {
-        if let Some(route) = set_route(alloc, tree, msg, rules.as_slice())? {
+        if let Some(route) = set_route(alloc, tree, msg, texts, rules.as_slice())? {
             return Ok(Some(route));
         }
     }
@@ -56,7 +60,8 @@ fn rules_route(
     ensures { IfOk result (λ r. r ≡ rules_route tree.now.present msg.now sets.now) }
 {
     if can_spell(alloc, msg)? {
-        return sets_route(alloc, tree, msg, sets);
+        let texts = texts_of(alloc, msg)?;
+        return sets_route(alloc, tree, msg, &texts, sets);
     }
     Ok(None)
 }

@@ -2,11 +2,13 @@
 
 ghost use Rattle.std.specs.Prelude.{◌≡◌, true, IfOk, IsTrue};
 ghost use Rattle.plumb_msg.specs.Spelling as spelling;
+ghost use Rattle.plumb_rules.specs.Fields.{texts_of};
 ghost use Rattle.plumb_rules.specs.Routes.{begun, rule_holds, rules_hold, with_dst, route_in, route_at, set_route};
 ghost use Rattle.plumb_rules.specs.Verbs.{where_holds};
 
 use crate::answer::{Route, Way};
 use crate::draft::Draft;
+use crate::fields::FieldTexts;
 use crate::state::State;
 use crate::verbs::{keeps_message, rule_done};
 use am_text::{Bytes, NoMemory};
@@ -16,11 +18,12 @@ use rule_syntax::ReadRule;
 use std::alloc::Global;
 
 // Before the first rule of a set.
-fn begun(msg: &PlumbMsg) -> State
+fn begun<'a>(msg: &'a PlumbMsg, texts: &'a FieldTexts) -> State<'a>
+    requires { texts.now ≡ texts_of msg.now }
     ensures { result ≡ begun msg.now }
 {
     State {
-        msg: Draft::given(msg),
+        msg: Draft::given(msg, texts),
         matched: None,
         file: None,
         dir: None,
@@ -86,13 +89,8 @@ fn with_dst(alloc: Global, msg: PlumbMsg, port: &Option<Bytes>) -> Result<PlumbM
 fn route_in(alloc: Global, state: State) -> Result<Route, NoMemory>
     ensures { IfOk result (λ r. r ≡ route_in state.entry) }
 {
-    let State {
-        mut msg,
-        port,
-        way,
-        ..
-    } = state;
-    let msg = with_dst(alloc, msg.take(alloc)?, &port)?;
+    let State { msg, port, way, .. } = state;
+    let msg = with_dst(alloc, msg.into_msg(alloc)?, &port)?;
     Ok(Route { port, way, msg })
 }
 
@@ -111,12 +109,14 @@ pub fn set_route(
     alloc: Global,
     tree: &Tree,
     msg: &PlumbMsg,
+    texts: &FieldTexts,
     rules: &[ReadRule],
 ) -> Result<Option<Route>, NoMemory>
-    requires { spelling.can_spell msg.now ≡ true }
+    requires spelled { spelling.can_spell msg.now ≡ true }
+    requires texts { texts.now ≡ texts_of msg.now }
     ensures { IfOk result (λ r. r ≡ set_route tree.now.present msg.now rules.now) }
 {
-    let mut state = begun(msg);
+    let mut state = begun(msg, texts);
     if !rules_hold(alloc, tree, &mut state, rules)? {
         return Ok(None);
     }

@@ -12,7 +12,7 @@ use am_text::{Bytes, Runes};
 pub struct State<'a> {
     pub msg: Draft<'a>,
     /// The match of the last `data matches`.
-    pub matched: Option<Matched>,
+    pub matched: Option<Matched<'a>>,
     /// The name of the last `isfile`.
     pub file: Option<Runes>,
     /// The name of the last `isdir`.

@@ -1,69 +1,39 @@
-//! Texts of a message while rules are done: of its fields, of variables, and of arguments.
+//! Texts of a message while rules are done: of names, of variables, and of arguments.
 
 ghost use Rattle.std.specs.Prelude.{◌≡◌, ◌++◌, length, slice_range, IfOk, OnOk};
 ghost use Rattle.std.specs.Fmt.{decimal};
 ghost use Rattle.am_text.specs.Utf8.{decode};
 ghost use Rattle.plumb_msg.specs.Spelling.{attrs_text};
-ghost use Rattle.plumb_rules.specs.Texts.{field_text, with_field, whole_name, data_name, found_or, group_text};
+ghost use Rattle.plumb_rules.specs.Fields.{field_text};
+ghost use Rattle.plumb_rules.specs.Texts.{whole_name, data_name, found_or, group_text};
 ghost use Rattle.plumb_rules.specs.Texts.{is_group, has_group, late_text, piece_text, argument_text};
 
+use crate::draft::Draft;
 use crate::matched::Matched;
 use crate::state::State;
 use acme_cmd::whole;
-use am_text::{NoMemory, Range, Rune, Runes, decimal, decode_whole, encode};
+use am_text::{NoMemory, Range, Rune, Runes, decimal, decode_whole};
 use plumb_msg::{PlumbMsg, attrs_text};
 use rule_syntax::{Field, Late, Piece};
 use std::alloc::Global;
 
-/// The text of a field.
-pub fn field_text(alloc: Global, msg: &PlumbMsg, field: Field) -> Result<Runes, NoMemory>
-    ensures { IfOk result (λ text. text ≡ field_text msg.now field) }
-{
-    match field {
-        Field::Src => decode_whole(alloc, msg.src.as_slice()),
-        Field::Dst => decode_whole(alloc, msg.dst.as_slice()),
-        Field::Wdir => decode_whole(alloc, msg.wdir.as_slice()),
-        Field::Sort => decode_whole(alloc, msg.sort.as_slice()),
-        Field::Data => decode_whole(alloc, msg.body.as_slice()),
-    }
-}
-
-/// The message with this text in a field.
-pub fn with_field(
-    alloc: Global,
-    msg: PlumbMsg,
-    field: Field,
-    text: &Runes,
-) -> Result<PlumbMsg, NoMemory>
-    ensures { IfOk result (λ new. new ≡ with_field msg field text.now) }
-{
-    let bytes = encode(alloc, text)?;
-    match field {
-        Field::Src => Ok(PlumbMsg { src: bytes, ..msg }),
-        Field::Dst => Ok(PlumbMsg { dst: bytes, ..msg }),
-        Field::Wdir => Ok(PlumbMsg { wdir: bytes, ..msg }),
-        Field::Sort => Ok(PlumbMsg { sort: bytes, ..msg }),
-        Field::Data => Ok(PlumbMsg { body: bytes, ..msg }),
-    }
-}
-
 /// A name made whole with the message's wdir.
-pub fn whole_name(alloc: Global, msg: &PlumbMsg, name: &[Rune]) -> Result<Runes, NoMemory>
+pub fn whole_name(alloc: Global, msg: &Draft, name: &[Rune]) -> Result<Runes, NoMemory>
     ensures { IfOk result (λ text. text ≡ whole_name msg.now name.now) }
 {
-    let wdir = decode_whole(alloc, msg.wdir.as_slice())?;
-    whole(alloc, wdir.as_slice(), name)
+    let wdir = msg.text(alloc, Field::Wdir)?;
+    whole(alloc, wdir.get().as_slice(), name)
 }
 
 /// The data as a name.
-pub fn data_name(alloc: Global, msg: &PlumbMsg) -> Result<Runes, NoMemory>
+pub fn data_name(alloc: Global, msg: &Draft) -> Result<Runes, NoMemory>
     ensures { IfOk result (λ text. text ≡ data_name msg.now) }
 {
-    let name = decode_whole(alloc, msg.body.as_slice())?;
-    whole_name(alloc, msg, name.as_slice())
+    let name = msg.text(alloc, Field::Data)?;
+    whole_name(alloc, msg, name.get().as_slice())
 }
 
-fn found_or(alloc: Global, found: &Option<Runes>, msg: &PlumbMsg) -> Result<Runes, NoMemory>
+fn found_or(alloc: Global, found: &Option<Runes>, msg: &Draft) -> Result<Runes, NoMemory>
     ensures { IfOk result (λ text. text ≡ found_or found.now msg.now) }
 {
     match found {
@@ -121,6 +91,14 @@ fn data_count(alloc: Global, msg: &PlumbMsg) -> Result<Runes, NoMemory>
     decode_whole(alloc, decimal(alloc, msg.body.len() as u64)?.as_slice())
 }
 
+// The text of a field, to be put into another one.
+fn copied_field(alloc: Global, msg: &Draft, field: Field) -> Result<Runes, NoMemory>
+    ensures { IfOk result (λ text. text ≡ field_text msg.now field) }
+{
+    let text = msg.text(alloc, field)?;
+    Runes::copied(alloc, text.get().as_slice())
+}
+
 // The text of a variable.
 fn late_text(alloc: Global, state: &State, late: Late) -> Result<Runes, NoMemory>
     ensures { IfOk result (λ text. text ≡ late_text state.now late) }
@@ -128,14 +106,14 @@ fn late_text(alloc: Global, state: &State, late: Late) -> Result<Runes, NoMemory
     match late {
         Late::Group(number) => group_text(alloc, &state.matched, number),
         Late::Attr => attributes(alloc, state.msg.get()),
-        Late::Data => decode_whole(alloc, state.msg.get().body.as_slice()),
-        Late::Dir => found_or(alloc, &state.dir, state.msg.get()),
-        Late::Dst => decode_whole(alloc, state.msg.get().dst.as_slice()),
-        Late::File => found_or(alloc, &state.file, state.msg.get()),
+        Late::Data => copied_field(alloc, &state.msg, Field::Data),
+        Late::Dir => found_or(alloc, &state.dir, &state.msg),
+        Late::Dst => copied_field(alloc, &state.msg, Field::Dst),
+        Late::File => found_or(alloc, &state.file, &state.msg),
         Late::Ndata => data_count(alloc, state.msg.get()),
-        Late::Src => decode_whole(alloc, state.msg.get().src.as_slice()),
-        Late::Sort => decode_whole(alloc, state.msg.get().sort.as_slice()),
-        Late::Wdir => decode_whole(alloc, state.msg.get().wdir.as_slice()),
+        Late::Src => copied_field(alloc, &state.msg, Field::Src),
+        Late::Sort => copied_field(alloc, &state.msg, Field::Sort),
+        Late::Wdir => copied_field(alloc, &state.msg, Field::Wdir),
     }
 }
 

@@ -6,21 +6,21 @@ ghost use Rattle.plumb_rules.specs.Patterns.{click_span, IsMatchIn};
 ghost use Rattle.rule_syntax.specs.Edged.{NeverMatches};
 ghost use Rattle.rule_syntax.specs.declared.rule.Verb.TheVariants as verbs;
 ghost use Rattle.plumb_rules.specs.Refused.{IsRefused};
-ghost use Rattle.plumb_rules.specs.Texts as texts;
+ghost use Rattle.plumb_rules.specs.Fields as fields;
 ghost use Rattle.plumb_rules.specs.Unchanged.{keeps_message};
 ghost use Rattle.plumb_rules.specs.Verbs.{where_holds, is_text, set, with_match, whole_data, clicked_msg, clicked};
 ghost use Rattle.plumb_rules.specs.Verbs.{data_matches, field_matches, tree_matches, matches, isfile, isdir, add};
 ghost use Rattle.plumb_rules.specs.Verbs.{delete, to, verb_done, rule_done};
 
 use crate::answer::Way;
-use crate::attributes::{Click, click_of, is_absent, unclicked, with_attrs, without_attr};
+use crate::attributes::{Click, click_of, is_absent};
+use crate::draft::Draft;
+use crate::fields::FieldText;
 use crate::matched::Matched;
 use crate::matching::{click_span, is_whole};
 use crate::pattern::pattern_of;
 use crate::state::State;
-use crate::texts::{
-    argument_text, data_name, field_text, has_group, part_of, whole_name, with_field,
-};
+use crate::texts::{argument_text, data_name, has_group, part_of, whole_name};
 use am_text::{Items, NoMemory, Range, Runes, encode};
 use name_tree::Tree;
 use plumb_msg::{PlumbMsg, read_attrs};
@@ -57,8 +57,8 @@ pub fn keeps_message(msg: &PlumbMsg, verb: Verb) -> bool
 fn is_text(alloc: Global, state: &State, field: Field, text: &Runes) -> Result<bool, NoMemory>
     ensures { IfOk result (λ holds. where_holds state.now holds ≡ is_text state.now field text.now) }
 {
-    let present = field_text(alloc, state.msg.get(), field)?;
-    Ok(present.as_slice() == text.as_slice())
+    let present = state.msg.text(alloc, field)?;
+    Ok(present.get().as_slice() == text.as_slice())
 }
 
 // The field gets the text.
@@ -66,60 +66,63 @@ fn is_text(alloc: Global, state: &State, field: Field, text: &Runes) -> Result<b
 fn set(alloc: Global, state: &mut State, field: Field, text: &Runes) -> Result<bool, NoMemory>
     ensures { IfOk result (λ holds. where_holds state.new holds ≡ set state.old field text.now) }
 {
-    let msg = with_field(alloc, state.msg.take(alloc)?, field, text)?;
-    state.msg.put(msg);
+    state.msg.set(alloc, field, text)?;
     Ok(true)
 }
 
 // With the match of a text.
-fn with_match(state: &mut State, re: Re, text: Runes, found: Range)
+fn with_match<'a>(state: &mut State<'a>, re: Re, text: FieldText<'a>, found: Range)
     requires { IsMatchIn (tree re) text found }
-    ensures { state.new ≡ with_match state.old (tree re) text found }
+    ensures { state.new ≡ with_match state.old (tree re) text.entry found }
 {
     state.matched = Some(Matched::new(re, text, found));
 }
 
 // The whole data match.
 #[tactic(auto, unfolding(crate::specs::Verbs::whole_data))]
-fn whole_data(alloc: Global, state: &mut State, re: Re, text: Runes) -> Result<bool, NoMemory>
-    ensures { IfOk result (λ holds. where_holds state.new holds ≡ whole_data state.old (tree re) text) }
+fn whole_data<'a>(
+    alloc: Global,
+    state: &mut State<'a>,
+    re: Re,
+    text: FieldText<'a>,
+) -> Result<bool, NoMemory>
+    ensures { IfOk result (λ holds. where_holds state.new holds ≡ whole_data state.old (tree re) text.entry) }
 {
-    if !is_whole(alloc, &re, &text)? {
+    if !is_whole(alloc, &re, text.get())? {
         return Ok(false);
     }
     let found = Range {
         q0: 0,
-        q1: text.len(),
+        q1: text.get().len(),
     };
     with_match(state, re, text, found);
     Ok(true)
 }
 
 // The data become the match at the click, and the click goes.
-fn clicked_msg(
-    alloc: Global,
-    msg: PlumbMsg,
-    text: &Runes,
-    found: Range,
-) -> Result<PlumbMsg, NoMemory>
-    ensures { IfOk result (λ new. new ≡ clicked_msg msg text.now found) }
+fn click(alloc: Global, msg: &mut Draft, text: &Runes, found: Range) -> Result<(), NoMemory>
+    ensures { OnOk result (msg.new ≡ clicked_msg msg.old text.now found) }
 {
     let part = Items::copied(alloc, part_of(text.as_slice(), found))?;
-    let body = encode(alloc, &part)?;
-    let attrs = unclicked(msg.attrs);
-    Ok(PlumbMsg { attrs, body, ..msg })
+    msg.set(alloc, Field::Data, &part)?;
+    msg.unclick(alloc)
 }
 
 #[tactic(auto, unfolding(crate::specs::Verbs::clicked))]
-fn clicked(alloc: Global, state: &mut State, re: Re, text: Runes, at: u64) -> Result<bool, NoMemory>
-    ensures { IfOk result (λ holds. where_holds state.new holds ≡ clicked state.old (tree re) text
-        (click_span (tree re) text at)) }
+fn clicked<'a>(
+    alloc: Global,
+    state: &mut State<'a>,
+    re: Re,
+    text: FieldText<'a>,
+    at: u64,
+) -> Result<bool, NoMemory>
+    ensures { IfOk result (λ holds. where_holds state.new holds ≡ clicked state.old (tree re) text.entry
+        (click_span (tree re) text.entry at)) }
 {
-    let Some(found) = click_span(alloc, &re, &text, at)? else {
+    let Some(found) = click_span(alloc, &re, text.get(), at)? else {
         return Ok(false);
     };
-    let msg = clicked_msg(alloc, state.msg.take(alloc)?, &text, found)?;
-    state.msg.put(msg);
+    click(alloc, &mut state.msg, text.get(), found)?;
     with_match(state, re, text, found);
     Ok(true)
 }
@@ -128,7 +131,7 @@ fn clicked(alloc: Global, state: &mut State, re: Re, text: Runes, at: u64) -> Re
 fn data_matches(alloc: Global, state: &mut State, re: Re) -> Result<bool, NoMemory>
     ensures { IfOk result (λ holds. where_holds state.new holds ≡ data_matches state.old (tree re)) }
 {
-    let text = field_text(alloc, state.msg.get(), Field::Data)?;
+    let text = state.msg.text(alloc, Field::Data)?;
     match click_of(state.msg.get().attrs.as_slice()) {
         Click::Absent => whole_data(alloc, state, re, text),
         Click::Unread => Ok(false),
@@ -140,8 +143,8 @@ fn data_matches(alloc: Global, state: &mut State, re: Re) -> Result<bool, NoMemo
 fn field_matches(alloc: Global, state: &State, field: Field, re: &Re) -> Result<bool, NoMemory>
     ensures { IfOk result (λ holds. where_holds state.now holds ≡ field_matches state.now field (tree re.now)) }
 {
-    let text = field_text(alloc, state.msg.get(), field)?;
-    is_whole(alloc, re, &text)
+    let text = state.msg.text(alloc, field)?;
+    is_whole(alloc, re, text.get())
 }
 
 #[tactic(auto, unfolding(crate::specs::Verbs::tree_matches))]
@@ -201,9 +204,7 @@ fn add(alloc: Global, state: &mut State, text: &Runes) -> Result<bool, NoMemory>
     let Some(more) = read_attrs(alloc, line.as_slice())? else {
         return Ok(false);
     };
-    let msg = state.msg.take(alloc)?;
-    let attrs = with_attrs(alloc, msg.attrs, more.as_slice())?;
-    state.msg.put(PlumbMsg { attrs, ..msg });
+    state.msg.add(alloc, more.as_slice())?;
     Ok(true)
 }
 
@@ -213,9 +214,7 @@ fn delete(alloc: Global, state: &mut State, text: &Runes) -> Result<bool, NoMemo
     ensures { IfOk result (λ holds. where_holds state.new holds ≡ delete state.old text.now) }
 {
     let name = encode(alloc, text)?;
-    let msg = state.msg.take(alloc)?;
-    let attrs = without_attr(msg.attrs, name.as_slice());
-    state.msg.put(PlumbMsg { attrs, ..msg });
+    state.msg.delete(alloc, name.as_slice())?;
     Ok(true)
 }
 
@@ -241,19 +240,19 @@ fn verb_done(
         Verb::Matches(field) => matches(alloc, state, field, &text),
         Verb::Set(field) => set(alloc, state, field, &text),
         Verb::ArgIsFile => {
-            let name = whole_name(alloc, state.msg.get(), text.as_slice())?;
+            let name = whole_name(alloc, &state.msg, text.as_slice())?;
             isfile(alloc, tree, state, name)
         }
         Verb::ArgIsDir => {
-            let name = whole_name(alloc, state.msg.get(), text.as_slice())?;
+            let name = whole_name(alloc, &state.msg, text.as_slice())?;
             isdir(alloc, tree, state, name)
         }
         Verb::DataIsFile => {
-            let name = data_name(alloc, state.msg.get())?;
+            let name = data_name(alloc, &state.msg)?;
             isfile(alloc, tree, state, name)
         }
         Verb::DataIsDir => {
-            let name = data_name(alloc, state.msg.get())?;
+            let name = data_name(alloc, &state.msg)?;
             isdir(alloc, tree, state, name)
         }
         Verb::Add => add(alloc, state, &text),
@@ -278,10 +277,10 @@ fn never_matches(
     field: Field,
 ) -> Result<bool, NoMemory>
     ensures { IfOk result (λ never. IsTrue never → NeverMatches rule.now.argument
-        (texts.field_text state.now.msg field)) }
+        (fields.field_text state.now.msg field)) }
 {
-    let present = field_text(alloc, state.msg.get(), field)?;
-    Ok(rule.never_matches(present.as_slice()))
+    let present = state.msg.text(alloc, field)?;
+    Ok(rule.never_matches(present.get().as_slice()))
 }
 
 // The same of a rule that has the field, where a part of it isn't enough.
