@@ -1,4 +1,5 @@
 pub mod Joined
+pub mod Parted
 pub mod Hex
 pub mod HexLaws
 pub mod FieldWords

@@ -6,4 +6,5 @@ pub mod Causes
 pub mod Line
 pub mod Texts
 pub mod Report
+pub mod Sections
 pub mod Journal

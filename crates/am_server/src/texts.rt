@@ -1,12 +1,13 @@
-//! The text that is written at the end, a line at a time.
+//! The text that is written at the end, a part at a time: a line, or the two lines of a window or a request.
 
-ghost use Rattle.std.specs.Prelude.{◌≡◌, ◌≤◌, ◌<◌, ◌^◌, [], length, take, IfOk, OnOk, IfErr, if◌then◌else◌};
-ghost use Rattle.std.specs.List.{AllByRecursion};
+ghost use Rattle.std.specs.Prelude.{◌≡◌, ◌≤◌, ◌<◌, ◌^◌, [], length, take, get_or, IfOk, OnOk, IfErr, if◌then◌else◌};
+ghost use Rattle.std.specs.List.{AllByRecursion, concat};
 ghost use Rattle.am_base.specs.Seen.{seen};
 ghost use Rattle.am_base.specs.Written.{IsWhole};
 ghost use Rattle.am_journal.specs.Journal.{ended_line, events_text, journal_in, journal_text};
 ghost use Rattle.am_journal.specs.Lawful.{IsLawful};
 ghost use Rattle.am_journal.specs.Report.{report_text};
+ghost use Rattle.am_journal.specs.Sections.{report_parts, section_parts};
 ghost use Rattle.acme_core.specs.Run.{settled};
 ghost use Rattle.acme_core.specs.Views.{view_of};
 ghost use Rattle.am_server.specs.Putting.{StopsAt, StopsIn};
@@ -14,7 +15,10 @@ ghost use Rattle.am_server.specs.Texts.{has_failed, host_line, host_text, refusa
 
 use acme_core::{Core, Event};
 use am_base::{Failed, Sink, write_all};
-use am_journal::{heading, refused_line, report, write_line};
+use am_journal::{
+    Section, View, heading, part_count, refused_line, report_part, reports_are_their_parts,
+    sections, write_line,
+};
 use am_serve::{ScriptEnd, fault_word};
 use am_slots::Slot;
 use am_text::{Bytes, Items, NoMemory, decimal};
@@ -91,12 +95,57 @@ fn put_journal<O: Sink>(alloc: Global, output: &mut O, core: &Core) -> Result<()
     }
 }
 
-fn report_of(alloc: Global, core: &Core) -> Result<Bytes, NoMemory>
-    requires { core.now ≡ settled core.now.journal }
-    ensures { IfOk result (λ text. text ≡ report_text (view_of core.now.journal)) }
+fn put_part<O: Sink>(
+    alloc: Global,
+    output: &mut O,
+    view: &View,
+    section: Section,
+    at: usize,
+) -> Result<(), Stop>
+    requires { at < length (section_parts view.now section) }
+    ensures ok { OnOk result (IsWhole (seen (O.told output.old) (O.told output.new))
+        (get_or (section_parts view.now section) at [])) }
+    ensures later { (O.told output.old).faults ≤ (O.told output.new).faults }
+    ensures err { IfErr result (λ e. StopsIn e (seen (O.told output.old) (O.told output.new))
+        (get_or (section_parts view.now section) at []) (λ _. [])) }
 {
-    let view = core.view()?;
-    report(alloc, &view)
+    match report_part(alloc, view, section, at) {
+        Ok(part) => put(output, part.as_slice()),
+        Err(NoMemory) => Err(Stop::NoMemory),
+    }
+}
+
+fn put_section<O: Sink>(
+    alloc: Global,
+    output: &mut O,
+    view: &View,
+    section: Section,
+) -> Result<(), Stop>
+    ensures ok { OnOk result (IsWhole (seen (O.told output.old) (O.told output.new))
+        (concat (section_parts view.now section))) }
+    ensures later { (O.told output.old).faults ≤ (O.told output.new).faults }
+    ensures err { IfErr result (λ e. StopsIn e (seen (O.told output.old) (O.told output.new))
+        (concat (section_parts view.now section)) (λ n. concat (take n (section_parts view.now section)))) }
+{
+    for at in 0..part_count(view, section) {
+        put_part(alloc, output, view, section, at)?;
+    }
+    Ok(())
+}
+
+// Writes the report of a view, part by part.
+fn put_view<O: Sink>(alloc: Global, output: &mut O, view: &View) -> Result<(), Stop>
+    ensures ok { OnOk result (IsWhole (seen (O.told output.old) (O.told output.new)) (report_text view.now)) }
+    ensures later { (O.told output.old).faults ≤ (O.told output.new).faults }
+    ensures err { IfErr result (λ e. StopsIn e (seen (O.told output.old) (O.told output.new))
+        (report_text view.now) (λ n. concat (take n (report_parts view.now)))) }
+{
+    // law: the parts of a report, joined, are the report
+    reports_are_their_parts();
+    for section in &sections() {
+        put_section(alloc, output, view, *section)?;
+    }
+    Ok(())
 }
 
 fn put_report<O: Sink>(alloc: Global, output: &mut O, core: &Core) -> Result<(), Stop>
@@ -105,10 +154,10 @@ fn put_report<O: Sink>(alloc: Global, output: &mut O, core: &Core) -> Result<(),
         (report_text (view_of core.now.journal))) }
     ensures later { (O.told output.old).faults ≤ (O.told output.new).faults }
     ensures err { IfErr result (λ e. StopsIn e (seen (O.told output.old) (O.told output.new))
-        (report_text (view_of core.now.journal)) (λ _. [])) }
+        (report_text (view_of core.now.journal)) (λ n. concat (take n (report_parts (view_of core.now.journal))))) }
 {
-    match report_of(alloc, core) {
-        Ok(text) => put(output, text.as_slice()),
+    match core.view() {
+        Ok(view) => put_view(alloc, output, &view),
         Err(NoMemory) => Err(Stop::NoMemory),
     }
 }
@@ -198,8 +247,8 @@ fn put_refusal<O: Sink>(alloc: Global, output: &mut O, end: ScriptEnd) -> Result
     }
 }
 
-/// Writes the heading and the journal's lines one by one, the report, a line `host` for each slot that has failed, and
-/// a line `refused` where a line of the script is. At want of memory what stands before stays written.
+/// Writes the heading and the journal's lines one by one, the report part by part, a line `host` for each slot that has
+/// failed, and a line `refused` where a line of the script is. At want of memory what stands before stays written.
 pub(crate) fn put_text<G, L, S, K, O: Sink>(
     alloc: Global,
     core: &Core,
