@@ -137,7 +137,7 @@ reader_absent (w ∷ ws) x h = let t = rest (is_reader x w) h in ap (λ c. cond 
     rest true e = absurd cc
     rest false e = (refl, e)
 
-reader_pushed : (ws : List WaitState) (v : WaitState) (x : ℕ) → reader_of (ws ++ v ∷ []) x
+pub reader_pushed : (ws : List WaitState) (v : WaitState) (x : ℕ) → reader_of (ws ++ v ∷ []) x
     ≡ cond (list_any (is_reader x) ws) (reader_of ws x) (cond (is_reader x v) v nothing)
 reader_pushed [] v x = refl
 reader_pushed (w ∷ ws) v x =
@@ -158,7 +158,7 @@ reader_noted line (w ∷ ws) x h =
     → cond b (noted line w) (reader_of (map (noted line) ws) x) ≡ noted line (cond b w (reader_of ws x)))
     [ true ↦ λ e. refl | false ↦ λ e. reader_noted line ws x e ]) h
 
-any_read : (ws : List WaitState) (r : Asker) (x : ℕ) → list_any (is_reader x) (after_log_read ws r)
+pub any_read : (ws : List WaitState) (r : Asker) (x : ℕ) → list_any (is_reader x) (after_log_read ws r)
     ≡ list_any (is_reader x) ws
 any_read [] r x = refl
 any_read (w ∷ ws) r x =
@@ -178,7 +178,7 @@ reader_there (w ∷ ws) x h = by (is_reader x w) refl (reader_there ws x) h
     by false e later k = later k
 
 -- the queue of the read's opening after the read
-reader_read : (ws : List WaitState) (r : Asker) → list_any (is_reader r.opening) ws ≡ true
+pub reader_read : (ws : List WaitState) (r : Asker) → list_any (is_reader r.opening) ws ≡ true
     → reader_of (after_log_read ws r) r.opening ≡ after_piece (reader_of ws r.opening) r
 reader_read [] r h = absurd cc
 reader_read (w ∷ ws) r h = by (is_reader r.opening w) refl (reader_read ws r) h
@@ -197,7 +197,7 @@ both_true true b h = (refl, h)
 both_true false b h = absurd cc
 
 -- and that of another
-reader_other : (ws : List WaitState) (r : Asker) (x : ℕ) → list_all is_single ws ≡ true → (r.opening == x) ≡ false
+pub reader_other : (ws : List WaitState) (r : Asker) (x : ℕ) → list_all is_single ws ≡ true → (r.opening == x) ≡ false
     → reader_of (after_log_read ws r) x ≡ reader_of ws x
 reader_other [] r x s n = refl
 reader_other (w ∷ ws) r x s n = by (is_reader r.opening w) refl (is_reader x w) refl (λ t. reader_other ws r x t n)
@@ -224,7 +224,7 @@ gone : (o : ℕ) (ws : List WaitState) → list_any (is_reader o) (without_reade
 gone o ws = any-filter_same (is_reader o) (λ w. not (is_reader o w)) false (λ w t. ap not t) ws
 
 -- the queue of an opening that stays
-reader_left : (o : ℕ) (ws : List WaitState) (x : ℕ) → list_all is_single ws ≡ true
+pub reader_left : (o : ℕ) (ws : List WaitState) (x : ℕ) → list_all is_single ws ≡ true
     → list_any (is_reader x) (without_reader ws o) ≡ true
     → reader_of (without_reader ws o) x ≡ reader_of ws x
 reader_left o [] x s h = refl

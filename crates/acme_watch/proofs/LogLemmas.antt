@@ -1,5 +1,5 @@
 -- What the table of openings shows after each change.
-use Rattle.std.proofs.Common.{◌≡◌, ℕ, zero, suc, ◌<◌, ◌≤◌, Bool, true, false, cond, not, List, [], ◌∷◌, length, get_or}
+use Rattle.std.proofs.Common.{◌≡◌, ◌==◌, ℕ, zero, suc, ◌<◌, ◌≤◌, Bool, true, false, cond, not, List, [], ◌∷◌, length, get_or}
 use Rattle.std.proofs.Common.{set, take, map, filter, Some, None, refl, sym, ap, ◌∙◌, arith, length-take, take_all}
 use Rattle.std.proofs.lemmas.List.{length-map}
 use Rattle.std.proofs.lemmas.Bool.Decides.{nat_tests}
@@ -11,6 +11,7 @@ use Rattle.wait_queue.specs.WaitState.{WaitState, nothing, after_piece}
 use Rattle.wait_queue.specs.declared.types.Asker.{Asker}
 use Rattle.acme_watch.specs.Log.{is_reader, reader_of, noted, after_log_read, present_of, kept_of}
 use Rattle.acme_watch.specs.Log.{with_present, with_kept, with_noted}
+use Rattle.acme_watch.specs.Watching.{WatchState, with_line}
 use Rattle.acme_watch.proofs.EachLemmas.{map-set, map-take}
 
 abbrev pub has : ℕ → Twice WaitState → Bool
@@ -180,3 +181,14 @@ pub all_noted : (message : List ℕ) (qs ws : List (Twice WaitState)) (n : ℕ) 
     → ◌≡◌ {A = Twice (List WaitState)} (record { present = map present_of ws; kept = map kept_of (take n ws) })
     (record { present = map (noted message) (map present_of qs); kept = map kept_of (take n qs) })
 all_noted message qs ws n e k = rw (kept_of-taken qs ws n k, e, present-noted message qs)
+
+-- ---- no openings
+
+none_noted : (ws : List WaitState) (line : List ℕ) → (length ws == 0) ≡ true → map (noted line) ws ≡ ws
+none_noted [] line h = refl
+none_noted (w ∷ ws) line h = let e : length (w ∷ ws) ≡ 0 = grind (arith, nat_tests) in absurd (omega (arith, e))
+
+pub none_has_line : (s : WatchState) (line : List ℕ) → (length s.log == 0) ≡ true → with_line s line ≡ s
+none_has_line s line h = ap (λ (log : List WaitState). record s { log = log }) (none_noted s.log line h)
+
+pub ruleset idle = (none_has_line)

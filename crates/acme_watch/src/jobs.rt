@@ -236,6 +236,16 @@ impl JobsFile {
         life_in(&self.settled[..self.kept], self.kept_made, number)
     }
 
+    /// Why an answer by this opening is refused, if it is.
+    pub fn fault(&self, opening: u32, bytes: &[u8]) -> Option<AnswerFault>
+        ensures { result ≡ answer_fault self.now.present opening (said_of bytes.now) }
+    {
+        match said(bytes) {
+            Some(told) => life_fault(opening, self.life(told.number)),
+            None => Some(AnswerFault::BadAnswer),
+        }
+    }
+
     /// Adds an opening. On an error the kept state stays.
     pub fn open(&mut self, opening: u32) -> Result<(), NoMemory>
         ensures ok { OnOk result (self.new ≡ record self.old { present = jobs_opened self.old.present opening }) }

@@ -1,7 +1,7 @@
 //! The openings of `log`.
 
-ghost use Rattle.std.specs.Prelude.{◌≡◌, ◌<◌, ◌≤◌, false, not, [], ◌∷◌, ◌++◌, map, filter, length, position, IfOk};
-ghost use Rattle.std.specs.Prelude.{IfSome, OnOk, OnErr};
+ghost use Rattle.std.specs.Prelude.{◌≡◌, ◌<◌, ◌≤◌, ◌==◌, false, not, [], ◌∷◌, ◌++◌, map, filter, length, position};
+ghost use Rattle.std.specs.Prelude.{IfOk, IfSome, OnOk, OnErr};
 ghost use Rattle.std.specs.List.{list_any};
 ghost use Rattle.am_text.specs.Twice.{Twice, both, IsSteady};
 ghost use Rattle.wait_queue.specs.WaitState.{must_wait, piece_of, after_piece, after_put, IsEnlisted};
@@ -140,6 +140,13 @@ impl LogReaders {
     {
         self.all.truncate(self.kept);
         back_each(self.all.as_mut_slice());
+    }
+
+    /// Whether there is no opening.
+    pub fn is_empty(&self) -> bool
+        ensures { result ≡ (length self.now.present == 0) }
+    {
+        self.all.is_empty()
     }
 
     /// Whether this opening is there.

@@ -161,6 +161,20 @@ impl Watch {
         is_there(&self.log, &self.jobs, file, opening)
     }
 
+    /// Whether a read would have to wait.
+    pub fn must_wait(&self, read: WatchRead) -> bool
+        ensures { result ≡ read_waits self.now.present.log self.now.present.jobs read }
+    {
+        must_wait(&self.log, &self.jobs, read)
+    }
+
+    /// Why `answer` would refuse this answer by an opening of `jobs`, if it would. It takes no memory.
+    pub fn answer_fault(&self, opening: u32, bytes: &[u8]) -> Option<AnswerFault>
+        ensures { result ≡ answer_fault self.now.present.jobs opening (said_of bytes.now) }
+    {
+        self.jobs.fault(opening, bytes)
+    }
+
     /// The life of the request with this number. None exactly where there is none.
     pub fn life(&self, number: u64) -> Option<JobLife>
         ensures { result ≡ life_of self.now.present.jobs number }
@@ -230,12 +244,16 @@ impl Watch {
         self.log.note(line.as_slice())
     }
 
-    /// A line more, for each opening of `log`.
+    /// A line more, for each opening of `log`. Where there is none it costs nothing, and takes no memory.
+    #[tactic(auto, using(crate::proofs::LogLemmas::idle))]
     pub fn note(&mut self, window: u32, op: Op, name: &[Rune]) -> Result<(), NoMemory>
         ensures ok { OnOk result (self.new
             ≡ record self.old { present = with_line self.old.present (log_line window op name.now) }) }
         ensures err { OnErr result (self.new ≡ both self.old.kept) }
     {
+        if self.log.is_empty() {
+            return Ok(());
+        }
         match self.try_note(window, op, name) {
             Ok(()) => Ok(()),
             Err(error) => {

@@ -18,6 +18,7 @@ use Rattle.core_windows.specs.declared.change.Change.TheVariants as change
 use Rattle.core_windows.specs.declared.change.Setting.TheVariants as setting
 use Rattle.core_scene.specs.declared.deed.Deed.{Deed}
 use Rattle.core_scene.specs.declared.deed.Deed.TheVariants as deed
+use Rattle.core_scene.specs.FileNotes.{read_note, stored_note}
 use Rattle.core_scene.specs.Scenes.{SceneState}
 use Rattle.core_actions.specs.declared.fault.ActionFault.{ActionFault}
 use Rattle.core_actions.specs.declared.fault.ActionFault.TheVariants as fault
@@ -55,10 +56,18 @@ fill_deeds w text s =
     deed.Windows (change.Edits w (replacement (whole_of (text_in (window_at s.windows w))) text))
     ∷ deed.Windows (change.Sets w setting.Clean) ∷ []
 
+-- it is noted for the file `log`
+abbrev pub get_noted : ℕ → List Deed
+get_noted w = read_note w ∷ []
+
+-- what Get does with a text
+abbrev pub get_deeds : ℕ → List ℕ → SceneState → List Deed
+get_deeds w text s = fill_deeds w text s ++ get_noted w
+
 -- the body becomes this text, where there is one that fits
 abbrev pub fill_outcome : ℕ → Result (List ℕ) ActionFault → SceneState → Outcome
 fill_outcome w (Err f) s = fails f
-fill_outcome w (Ok text) s = if fits 0 (length text) then does (fill_deeds w text s) else fails fault.TextTooLong
+fill_outcome w (Ok text) s = if fits 0 (length text) then does (get_deeds w text s) else fails fault.TextTooLong
 
 -- Get: the text of the file or directory takes the place of the body
 abbrev pub get_outcome : ℕ → List ℕ → SceneState → Outcome
@@ -88,12 +97,16 @@ clean_if b w = if b then deed.Windows (change.Sets w setting.Clean) ∷ [] else 
 abbrev pub put_deeds : ℕ → Saved → SceneState → List Deed
 put_deeds w saved s = store_deeds w saved s ++ clean_if (is_own (window_at s.windows w) saved.path) w
 
+-- it is noted for the file `log`
+abbrev pub put_noted : ℕ → List Deed
+put_noted w = stored_note w ∷ []
+
 -- the body is stored at a path
 abbrev pub put_at : ℕ → Result (List ℕ) ActionFault → SceneState → Outcome
 put_at w (Err f) s = fails f
 put_at w (Ok path) s =
     if file_clashes s.files (utf8 path) then fails fault.FileNotFound
-    else does (put_deeds w (record { path = path; text = text_in (window_at s.windows w) }) s)
+    else does (put_deeds w (record { path = path; text = text_in (window_at s.windows w) }) s ++ put_noted w)
 
 -- Put: the body is stored under that name, or else under the window's name
 abbrev pub put_outcome : ℕ → List ℕ → SceneState → Outcome

@@ -1,11 +1,12 @@
 //! Get and Put.
 
-ghost use Rattle.std.specs.Prelude.{◌≡◌, false, IsSome, IfOk, OnOk, Ok};
+ghost use Rattle.std.specs.Prelude.{◌≡◌, ◌∷◌, [], false, IsSome, IfOk, OnOk, Ok};
 ghost use Rattle.am_text.specs.Utf8.{utf8};
 ghost use Rattle.name_tree.specs.Kinds.{file_clashes};
 ghost use Rattle.name_tree.specs.Listing.{found_at};
 ghost use Rattle.core_windows.specs.Windows.{window_at};
 ghost use Rattle.core_scene.specs.Scenes.{scene_of, kept_of, Did};
+ghost use Rattle.core_scene.specs.declared.deed.Deed.TheVariants as deed;
 ghost use Rattle.core_actions.specs.Seen.{dir_of};
 ghost use Rattle.core_actions.specs.Files.{text_found, file_text, fill_deeds, fill_outcome, get_outcome, save_job};
 ghost use Rattle.core_actions.specs.Files.{store_deeds, is_own, clean_if, put_deeds, put_at, put_outcome};
@@ -16,7 +17,7 @@ use crate::paths::{path_named, path_of};
 use crate::seen::{dir_at, fits, name_at, size_at, text_at};
 use am_text::{NoMemory, Range, Rune, Runes, decode_whole, encode};
 use core_addresses::replacement;
-use core_scene::{Deed, Entry, Found, Job, JobKind, Scene, Setting, Tree, Windows};
+use core_scene::{Deed, Entry, Found, Job, JobKind, Op, Scene, Setting, Tree, Windows};
 use std::alloc::Global;
 
 /// A text, and the path under which it is stored.
@@ -81,8 +82,16 @@ fn fill(
     edit_and_set(alloc, scene, entry, window, (edits, Setting::Clean))
 }
 
+// What was done to a window is noted for the file `log`.
+fn note(alloc: Global, scene: &mut Scene, entry: Entry, window: u32, op: Op) -> Result<(), NoMemory>
+    ensures ok { OnOk result (Did entry (scene_of scene.old) (scene_of scene.new) (deed.Notes window op ∷ [])) }
+    ensures kept { kept_of scene.new ≡ kept_of scene.old }
+{
+    scene.act(alloc, entry, Deed::Notes { window, op })
+}
+
 /// Get: the text of the file or directory of a name, or else of the window's name, takes the place of the body, which
-/// then counts as unmodified.
+/// then counts as unmodified. It is noted for the file `log`, with the window's name.
 ///
 /// It isn't done where there is no such text, or where it has more than 16,777,216 runes.
 #[tactic(auto, using(crate::proofs::Windows::joins))]
@@ -123,6 +132,7 @@ fn fill_if_fits(
         return Ok(Some(ActionFault::TextTooLong));
     }
     fill(alloc, scene, entry, window, text)?;
+    note(alloc, scene, entry, window, Op::Get)?;
     Ok(None)
 }
 
@@ -140,9 +150,9 @@ fn save_job(alloc: Global, windows: &Windows, window: u32, saved: Saved) -> Resu
     })
 }
 
-// Stores a text, and requests a program to save it. The windows stay as they are.
+/// Stores a text, and requests a program to save it. The windows stay as they are.
 #[tactic(auto, using(crate::proofs::Windows::joins))]
-fn store(
+pub fn store(
     alloc: Global,
     scene: &mut Scene,
     entry: Entry,
@@ -231,11 +241,13 @@ fn put_at(
     }
     let text = text_at(alloc, &scene.windows, window)?;
     save(alloc, scene, entry, window, Saved { path, text })?;
+    note(alloc, scene, entry, window, Op::Put)?;
     Ok(None)
 }
 
 /// Put: the body is stored under a name, or else under the window's name, made whole with the window's directory, and a
-/// program is requested to save it. The window then counts as unmodified where the path is that of its own name.
+/// program is requested to save it. The window then counts as unmodified where the path is that of its own name. It is
+/// noted for the file `log`, with the window's name.
 ///
 /// It isn't done where both names are empty, or where no file can be stored there.
 #[tactic(auto, using(crate::proofs::Windows::joins))]

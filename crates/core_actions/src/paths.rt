@@ -91,7 +91,7 @@ fn name_or_own<'a>(own: &'a [Rune], name: &'a [Rune]) -> &'a [Rune]
 
 /// The path of the argument of Get or Put, or else of the window's name, made whole with the window's
 /// directory; or why there is none.
-pub(crate) fn path_of(
+pub fn path_of(
     alloc: Global,
     windows: &Windows,
     window: u32,

@@ -16,7 +16,7 @@ use win_text::BODY_RUNES;
 pub(crate) const FRONT: Range = Range { q0: 0, q1: 0 };
 
 /// Whether a body of so many runes has room for so many more.
-pub(crate) fn fits(len: usize, more: usize) -> bool
+pub fn fits(len: usize, more: usize) -> bool
     ensures { result ≡ fits len more }
 {
     more <= BODY_RUNES && len <= BODY_RUNES - more
@@ -65,7 +65,7 @@ pub fn dir_at(alloc: Global, windows: &Windows, window: u32) -> Result<Runes, No
 }
 
 /// How many runes the body of a window has.
-pub(crate) fn size_at(windows: &Windows, window: u32) -> usize
+pub fn size_at(windows: &Windows, window: u32) -> usize
     ensures { result ≡ length (text_in (window_at windows.now.present window)) }
 {
     match windows.get(window) {
@@ -85,7 +85,7 @@ pub(crate) fn text_at(alloc: Global, windows: &Windows, window: u32) -> Result<R
 }
 
 /// What is selected in a window.
-pub(crate) fn dot_at(windows: &Windows, window: u32) -> Range
+pub fn dot_at(windows: &Windows, window: u32) -> Range
     ensures exact { result ≡ dot_of (window_at windows.now.present window) }
     ensures inside { IsInside (text_in (window_at windows.now.present window)) result }
 {

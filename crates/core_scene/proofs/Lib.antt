@@ -4,3 +4,4 @@ pub mod Possible
 pub mod Settled
 pub mod ItemJoined
 pub mod Sized
+pub mod Watched

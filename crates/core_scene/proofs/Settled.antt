@@ -15,8 +15,8 @@ settled_in s = record {
   snarf = refl;
   jobs = refl;
   rules = refl;
-  ports =
-      refl;
+  ports = refl;
+  watch = refl;
   items = refl;
   deleted = refl;
 }
@@ -26,6 +26,6 @@ settled_by x s e = subst IsSettled (sym e) (settled_in s)
 
 -- a settled scene is its kept state
 pub settled_is : (x : Scene) → IsSettled x → scene_of x ≡ kept_of x
-settled_is x h = rw (h.windows, h.book, h.files, h.snarf, h.jobs, h.rules, h.ports, h.items, h.deleted) refl
+settled_is x h = rw (h.windows, h.book, h.files, h.snarf, h.jobs, h.rules, h.ports, h.watch, h.items, h.deleted) refl
 
 pub ruleset settled = (settled_by, settled_is)

@@ -3,13 +3,14 @@ use Rattle.std.specs.Prelude.{◌≡◌, ℕ, ◌&&◌, ◌||◌, Bool, true, fa
 use Rattle.am_text.specs.Twice.{both, IsSteady}
 use Rattle.am_text.specs.declared.job.Job.{Job}
 use Rattle.event_book.specs.BookState.{BookState, empty_book}
+use Rattle.acme_watch.specs.Watching.{WatchState, watching, with_request}
 use Rattle.name_tree.specs.declared.types.Node.{Node}
 use Rattle.name_tree.specs.Kinds.{file_clashes, directory_clashes, after_file, after_directory}
 use Rattle.rule_syntax.specs.Verbs.{is_port_name}
 use Rattle.core_stores.specs.Stores.{RuleState, no_rules, added, has_room}
 use Rattle.plumb_ports.specs.PortList.{is_there}
 use Rattle.plumb_ports.specs.PortsState.{PortsState, beginning, after_add, refusal, after_deliver}
-use Rattle.core_windows.specs.Windows.{Window, changed}
+use Rattle.core_windows.specs.Windows.{Window, window_at, changed}
 use Rattle.core_windows.specs.declared.change.Change.{Change}
 use Rattle.core_windows.specs.Possible.{CanChange}
 use Rattle.core_scene.specs.NewItems.{items_of}
@@ -20,9 +21,10 @@ use Rattle.core_scene.specs.declared.deed.Deed.{Deed}
 use Rattle.core_scene.specs.declared.deed.Deed.TheVariants as deed
 use Rattle.core_scene.specs.declared.scene.Scene.{Scene}
 use Rattle.core_scene.specs.Told.{told_in, told_if_any, teller_of, deletes}
+use Rattle.core_scene.specs.Noted.{line_of, line_of_change, with_line_if_any}
 
 -- all windows, the event files, the tree of files, the snarfed text, the requests, the rules and ports of the plumber,
--- and the items that the step has made so far, and the windows that it has deleted
+-- the files `log` and `jobs`, and the items that the step has made so far, and the windows that it has deleted
 pub record SceneState : Type 0 where
   pub windows : List (Option Window)
   pub book : BookState
@@ -31,6 +33,7 @@ pub record SceneState : Type 0 where
   pub jobs : List Job
   pub rules : RuleState
   pub ports : PortsState
+  pub watch : WatchState
   pub items : List WindowItem
   pub deleted : List ℕ
 
@@ -45,6 +48,7 @@ abbrev pub done : Entry → SceneState → Deed → SceneState
 done e s (deed.Windows c) =
     record s {
       windows = changed e.at s.windows c;
+      watch = with_line_if_any s.watch (line_of_change s.windows c);
       items = s.items ++ items_told e s c;
       deleted = s.deleted ++ deletes c;
     }
@@ -52,7 +56,8 @@ done e s (deed.Item w item) = record s { items = s.items ++ told_in s.book w (it
 done e s (deed.Snarfs text) = record s { snarf = text }
 done e s (deed.Stores path bytes) = record s { files = after_file s.files path bytes }
 done e s (deed.MakesDir path) = record s { files = after_directory s.files path }
-done e s (deed.Requests job) = record s { jobs = s.jobs ++ job ∷ [] }
+done e s (deed.Requests job) = record s { jobs = s.jobs ++ job ∷ []; watch = with_request s.watch job }
+done e s (deed.Notes w op) = record s { watch = with_line_if_any s.watch (line_of w op (window_at s.windows w)) }
 done e s (deed.AddsRules sets vars text) = record s { rules = added s.rules sets vars text }
 done e s deed.ClearsRules = record s { rules = no_rules }
 done e s (deed.AddsPort name) = record s { ports = after_add s.ports name }
@@ -71,6 +76,7 @@ CanDo s (deed.Snarfs text) = Unit {0}
 CanDo s (deed.Stores path bytes) = file_clashes s.files path ≡ false
 CanDo s (deed.MakesDir path) = directory_clashes s.files path ≡ false
 CanDo s (deed.Requests job) = Unit {0}
+CanDo s (deed.Notes w op) = Unit {0}
 CanDo s (deed.AddsRules sets vars text) = has_room s.rules (length text) ≡ true
 CanDo s deed.ClearsRules = Unit {0}
 CanDo s (deed.AddsPort name) = can_add s.ports name ≡ true
@@ -106,6 +112,7 @@ deleted_by (deed.Snarfs text ∷ ds) = deleted_by ds
 deleted_by (deed.Stores path bytes ∷ ds) = deleted_by ds
 deleted_by (deed.MakesDir path ∷ ds) = deleted_by ds
 deleted_by (deed.Requests job ∷ ds) = deleted_by ds
+deleted_by (deed.Notes w op ∷ ds) = deleted_by ds
 deleted_by (deed.AddsRules sets vars text ∷ ds) = deleted_by ds
 deleted_by (deed.ClearsRules ∷ ds) = deleted_by ds
 deleted_by (deed.AddsPort name ∷ ds) = deleted_by ds
@@ -123,6 +130,7 @@ no_scene = record {
   jobs = [];
   rules = no_rules;
   ports = beginning;
+  watch = watching;
   items = [];
   deleted = [];
 }
@@ -137,6 +145,7 @@ scene_of s = record {
   jobs = s.jobs.present;
   rules = s.rules.present;
   ports = s.ports.present;
+  watch = s.watch.present;
   items = s.items;
   deleted = s.deleted;
 }
@@ -151,6 +160,7 @@ kept_of s = record {
   jobs = s.jobs.kept;
   rules = s.rules.kept;
   ports = s.ports.kept;
+  watch = s.watch.kept;
   items = [];
   deleted = [];
 }
@@ -165,6 +175,7 @@ scene_in s = record {
   jobs = both s.jobs;
   rules = both s.rules;
   ports = both s.ports;
+  watch = both s.watch;
   items = [];
   deleted = [];
 }
@@ -178,5 +189,6 @@ pub record IsSettled (s : Scene) : Type 0 where
   pub jobs : IsSteady s.jobs
   pub rules : IsSteady s.rules
   pub ports : IsSteady s.ports
+  pub watch : IsSteady s.watch
   pub items : s.items ≡ []
   pub deleted : s.deleted ≡ []

@@ -1,5 +1,6 @@
 //! Deeds, and the items that they make.
 
+use acme_watch::Op;
 use am_text::{Bytes, Items, Job, Runes};
 use core_windows::Change;
 use rule_syntax::{RuleSets, Vars};
@@ -15,7 +16,8 @@ pub struct Entry {
 /// One small thing that a step does.
 #[derive(Drop)]
 pub enum Deed {
-    /// A change of the windows, which also makes its items where the event file of its window is open.
+    /// A change of the windows, which also makes its items where the event file of its window is open. A window that is
+    /// made, deleted or named by it is noted for the file `log`.
     Windows(Change),
     /// An item of a window comes, where its event file is open.
     Item {
@@ -33,8 +35,13 @@ pub enum Deed {
     MakesDir {
         path: Bytes,
     },
-    /// A program is requested, under the next number.
+    /// A program is requested, under the next number, and waits in the file `jobs`.
     Requests(Job),
+    /// What was done to a window is noted for the file `log`, with the window's name.
+    Notes {
+        window: u32,
+        op: Op,
+    },
     /// Sets of rules are accepted, with the variables after them and the text in which they were written.
     AddsRules {
         sets: RuleSets,

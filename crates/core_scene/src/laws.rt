@@ -1,7 +1,8 @@
 //! Laws of deeds. Each function has a law as its contract, and does nothing.
 
-ghost use Rattle.core_scene.specs.SceneLaws.{DeedsJoin, DeedsShow};
+ghost use Rattle.core_scene.specs.SceneLaws.{DeedsJoin, DeedsShow, RequestsAreWatched};
 
+use acme_watch::requests_stay_in_order;
 use core_windows::laws::{changes_are_lawful, changes_show};
 
 /// Deeds that are done after others are done as one list with them.
@@ -16,4 +17,12 @@ pub fn deeds_show()
     // law: changes of the windows show in their stories, and leave these lawful
     changes_show();
     changes_are_lawful();
+}
+
+/// The requests that the file `jobs` hands out are those that were made, in their order, whatever deeds are done.
+pub fn requests_are_watched()
+    ensures { RequestsAreWatched }
+{
+    // law: the requests of a watch stay in order
+    requests_stay_in_order();
 }

@@ -1,6 +1,6 @@
 //! What a step is made of: deeds, done one after another to one scene: the windows, the event files, the tree
-//! of files, the snarfed text, the requests, and the rules and ports of the plumber; and the items that a
-//! change of the windows makes.
+//! of files, the snarfed text, the requests, the rules and ports of the plumber, and the files `log` and `jobs`;
+//! and the items and lines that a change of the windows makes.
 #![tactic(auto)]
 
 mod changing;
@@ -8,12 +8,14 @@ mod deed;
 mod edits;
 pub mod laws;
 mod making;
+mod noted;
 mod plain;
 mod scene;
 mod size;
 mod tags;
 mod told;
 
+pub use acme_watch::{Op, Watch};
 pub use am_text::{Bytes, Items, Job, JobKind, NoMemory, Runes};
 pub use changing::deeds_of;
 pub use core_stores::{Requests, RuleStore, Snarf};

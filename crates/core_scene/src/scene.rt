@@ -8,7 +8,9 @@ ghost use Rattle.core_scene.specs.Scenes.{can_add, no_scene, scene_in, scene_of,
 ghost use Rattle.core_scene.specs.declared.deed.Deed.TheVariants as deed;
 
 use crate::deed::{Deed, Deeds, Entry, WindowItems};
+use crate::noted::{note_change, note_window};
 use crate::told::{tell_change, tell_deletion, tell_item};
+use acme_watch::{Op, Watch};
 use am_text::{Bytes, Ids, Items, Job, NoMemory, Runes};
 use core_stores::{Requests, RuleStore, Snarf};
 use core_windows::{Change, Windows};
@@ -18,9 +20,9 @@ use plumb_ports::{PortFault, Ports};
 use std::alloc::Global;
 use win_events::Item;
 
-/// What deeds are done to: the windows, the event files, the tree of files, the snarfed text, the requests, and
-/// the rules and ports of the plumber, each in two states, and the items that the step has made so far, and the
-/// windows that it has deleted.
+/// What deeds are done to: the windows, the event files, the tree of files, the snarfed text, the requests, the rules
+/// and ports of the plumber, and the files `log` and `jobs`, each in two states, and the items that the step has made
+/// so far, and the windows that it has deleted.
 pub struct Scene {
     pub windows: Windows,
     pub book: Book,
@@ -29,6 +31,7 @@ pub struct Scene {
     pub jobs: Requests,
     pub rules: RuleStore,
     pub ports: Ports,
+    pub watch: Watch,
     pub items: WindowItems,
     pub deleted: Ids,
 }
@@ -44,6 +47,7 @@ impl Drop for Scene {
             jobs: _,
             rules: _,
             ports: _,
+            watch: _,
             items: _,
             deleted: _,
         } = self;
@@ -63,6 +67,7 @@ impl Scene {
             jobs: Requests::new(alloc),
             rules: RuleStore::new(alloc),
             ports: Ports::new(alloc)?,
+            watch: Watch::new(alloc),
             items: Items::new(alloc),
             deleted: Items::new(alloc),
         })
@@ -84,7 +89,8 @@ impl Scene {
             }
             Deed::Stores { path, bytes } => self.store(entry, path, bytes),
             Deed::MakesDir { path } => self.make_dir(entry, path),
-            Deed::Requests(job) => self.jobs.add(job),
+            Deed::Requests(job) => self.request(entry, job),
+            Deed::Notes { window, op } => self.note(entry, window, op),
             Deed::AddsRules { sets, vars, text } => self.rules.add(sets, vars, text.as_slice()),
             Deed::ClearsRules => {
                 self.rules.clear();
@@ -114,6 +120,7 @@ impl Scene {
             &change,
         )?;
         tell_deletion(&mut self.deleted, &change)?;
+        note_change(&mut self.watch, &self.windows, &change)?;
         self.windows.change(change, entry.at)
     }
 
@@ -149,6 +156,23 @@ impl Scene {
             Err(TreeFault::NoMemory) => Err(NoMemory),
             Err(TreeFault::Clash) => unreachable!(),
         }
+    }
+
+    fn request(&mut self, entry: Entry, job: Job) -> Result<(), NoMemory>
+        ensures ok { OnOk result (scene_of self.new ≡ done entry (scene_of self.old) (deed.Requests job)) }
+        ensures kept { kept_of self.new ≡ kept_of self.old }
+        ensures book { self.new.book ≡ self.old.book }
+    {
+        self.watch.job(&job)?;
+        self.jobs.add(job)
+    }
+
+    fn note(&mut self, entry: Entry, window: u32, op: Op) -> Result<(), NoMemory>
+        ensures ok { OnOk result (scene_of self.new ≡ done entry (scene_of self.old) (deed.Notes window op)) }
+        ensures kept { kept_of self.new ≡ kept_of self.old }
+        ensures book { self.new.book ≡ self.old.book }
+    {
+        note_window(&mut self.watch, &self.windows, window, op)
     }
 
     fn add_port(&mut self, entry: Entry, name: Bytes) -> Result<(), NoMemory>
@@ -209,6 +233,7 @@ impl Scene {
         self.jobs.keep();
         self.rules.keep();
         self.ports.keep();
+        self.watch.keep();
         self.items = Items::new(alloc);
         self.deleted = Items::new(alloc);
     }
@@ -225,6 +250,7 @@ impl Scene {
         self.jobs.back();
         self.rules.back();
         self.ports.back();
+        self.watch.back();
         self.items = Items::new(alloc);
         self.deleted = Items::new(alloc);
     }

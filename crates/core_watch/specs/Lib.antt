@@ -1,0 +1,5 @@
+pub mod Asking
+pub mod Serving
+pub mod Closing
+pub mod Answering
+pub mod Sound
