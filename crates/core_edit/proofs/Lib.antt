@@ -1,4 +1,1 @@
-pub mod Joined
 pub mod Lengths
-pub mod Changing
-pub mod Saying

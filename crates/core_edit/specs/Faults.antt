@@ -23,6 +23,10 @@ fault_text fault.AddressOutOfOrder = codes "address out of order"
 fault_text fault.ChangesOutOfSequence = codes "changes out of sequence"
 fault_text fault.MoveOverlaps = codes "move overlaps"
 fault_text fault.TextTooLong = codes "text too long"
+fault_text fault.NoSuchWindow = codes "no such window"
+fault_text fault.WindowModified = codes "window modified"
+fault_text fault.NoFileName = codes "no file name"
+fault_text fault.FileNotFound = codes "file not found"
 
 -- the line that says it
 unfoldable pub fault_line : CommandFault → List ℕ

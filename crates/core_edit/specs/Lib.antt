@@ -1,4 +1,2 @@
 pub mod Faults
 pub mod Plans
-pub mod Editing
-pub mod EditLaws

@@ -1,10 +1,9 @@
--- What a text of Edit is to make of a window's body (sam(1)).
+-- What a command of Edit is to make of a window's body (sam(1)).
 use Rattle.std.specs.Prelude.{◌≡◌, ℕ, ◌+◌, ◌-◌, List, [], ◌∷◌, length, Option, Some, None, Result, Ok, Err}
 use Rattle.std.specs.Prelude.{if◌then◌else◌}
 use Rattle.edit_log.specs.declared.types.Edit.{Edit}
 use Rattle.edit_log.specs.Edited.{text_after}
 use Rattle.edit_parts.specs.Tree.{Command}
-use Rattle.sam_syntax.specs.Edits.{small_edit}
 use Rattle.edit_run.specs.declared.fault.EditFault.{EditFault}
 use Rattle.edit_run.specs.declared.types.EditPlan.{EditPlan}
 use Rattle.edit_run.specs.declared.types.Site.{Site}
@@ -45,14 +44,13 @@ abbrev pub plan_if_fits : List ℕ → Planned → Planned
 plan_if_fits t (Err f) = Err f
 plan_if_fits t (Ok plan) = if fits 0 (length (text_after t plan.edits)) then Ok plan else Err (Some fault.TextTooLong)
 
--- what a command makes of a text, if the text of Edit is one
-abbrev pub plan_of : Option Command → List ℕ → Site → Planned
-plan_of None t site = Err (Some fault.BadCommand)
-plan_of (Some c) t site = plan_if_fits t (planned_of (planned c t site))
+-- what a command makes of a text
+abbrev pub plan_of : Command → List ℕ → Site → Planned
+plan_of c t site = plan_if_fits t (planned_of (planned c t site))
 
--- what a text of Edit makes of a window's body
-abbrev pub edit_plan : ℕ → Option Window → List ℕ → Planned
-edit_plan w window text = plan_of (small_edit text) (text_in window) (site_of w window)
+-- what a command makes of a window's body
+abbrev pub window_plan : ℕ → Option Window → Command → Planned
+window_plan w window c = plan_of c (text_in window) (site_of w window)
 
 -- Each edit of the plan is one of the text as it is then, and dot lies in the text that they leave.
 pub record IsPlanOf (t : List ℕ) (plan : EditPlan) : Type 0 where

@@ -25,6 +25,14 @@ pub enum CommandFault {
     MoveOverlaps,
     /// The body would have more than 16,777,216 runes.
     TextTooLong,
+    /// No live window has the name.
+    NoSuchWindow,
+    /// The window is modified, and its name is one that guards it.
+    WindowModified,
+    /// Neither the command nor the window has a name.
+    NoFileName,
+    /// No file or directory has the name, or none can have it.
+    FileNotFound,
 }
 
 /// The fault of a command over a text, as it is said.
@@ -52,12 +60,16 @@ fn fault_text(fault: CommandFault) -> &'static [u8]
         CommandFault::ChangesOutOfSequence => b"changes out of sequence",
         CommandFault::MoveOverlaps => b"move overlaps",
         CommandFault::TextTooLong => b"text too long",
+        CommandFault::NoSuchWindow => b"no such window",
+        CommandFault::WindowModified => b"window modified",
+        CommandFault::NoFileName => b"no file name",
+        CommandFault::FileNotFound => b"file not found",
     }
 }
 
 /// The line that says a fault.
 #[tactic(auto, unfolding(crate::specs::Faults::fault_line))]
-pub(crate) fn fault_line(alloc: Global, fault: CommandFault) -> Result<Runes, NoMemory>
+pub fn fault_line(alloc: Global, fault: CommandFault) -> Result<Runes, NoMemory>
     ensures { IfOk result (λ line. line ≡ fault_line fault) }
 {
     let mut line = Runes::new(alloc);

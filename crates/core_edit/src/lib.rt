@@ -1,10 +1,9 @@
-//! Edit: a text as a command of sam(1) over the body of a window, as deeds over the scene.
+//! Commands of sam(1) over the body of a window: what one is to make of it, and how a fault is said.
 #![tactic(auto)]
 
-mod doing;
 mod fault;
-pub mod laws;
 mod planning;
 
-pub use doing::edit;
-pub use fault::CommandFault;
+pub use edit_run::{Cmd, EditPlan};
+pub use fault::{CommandFault, fault_line};
+pub use planning::{Planned, window_plan};

@@ -1,24 +1,23 @@
-//! What a text of Edit is to make of a window's body.
+//! What a command of Edit is to make of a window's body.
 
 ghost use Rattle.std.specs.Prelude.{◌≡◌, Some, Ok, IsSome, IfOk};
 ghost use Rattle.edit_parts.specs.Tree.{command};
 ghost use Rattle.core_windows.specs.Panes.{window_of};
 ghost use Rattle.core_windows.specs.Possible.{text_in};
 ghost use Rattle.core_windows.specs.Windows.{window_at};
-ghost use Rattle.core_edit.specs.Plans.{as_planned, site_of, plan_if_fits, plan_of, edit_plan, IsPlanOf, length_with};
-ghost use Rattle.core_edit.specs.Plans.{length_after};
+ghost use Rattle.core_edit.specs.Plans.{as_planned, site_of, plan_if_fits, plan_of, window_plan, IsPlanOf};
+ghost use Rattle.core_edit.specs.Plans.{length_with, length_after};
 
 use crate::fault::{CommandFault, command_fault};
-use am_text::{Letters, NoMemory, Rune, Runes};
+use am_text::{Letters, NoMemory, Runes};
 use core_scene::Windows;
 use core_windows::Pane;
 use edit_run::{Cmd, Edit, EditPlan, Site, changes};
-use sam_syntax::read_edit;
 use std::alloc::Global;
 use win_text::{BODY_RUNES, Body};
 
 /// A plan, or the fault that is said.
-type Planned = Result<EditPlan, CommandFault>;
+pub type Planned = Result<EditPlan, CommandFault>;
 
 // How many runes a text of so many runes has after an edit.
 fn length_with(size: usize, edit: &Edit) -> Result<usize, NoMemory>
@@ -75,7 +74,7 @@ fn site_of(alloc: Global, window: u32, pane: &Pane) -> Result<Site, NoMemory>
 #[tactic(auto, using(crate::proofs::Lengths::ranges))]
 fn plan_of(alloc: Global, window: u32, pane: &Pane, cmd: &Cmd) -> Result<Planned, NoMemory>
     ensures exact { IfOk result (λ planned. as_planned planned
-        ≡ plan_of (Some (command cmd.now)) pane.now.body.state.text (site_of window (Some (window_of pane.now)))) }
+        ≡ plan_of (command cmd.now) pane.now.body.state.text (site_of window (Some (window_of pane.now)))) }
     ensures sound { IfOk result (λ planned. IfOk planned (IsPlanOf pane.now.body.state.text)) }
 {
     // law: the ranges of a body are inside its text
@@ -87,23 +86,20 @@ fn plan_of(alloc: Global, window: u32, pane: &Pane, cmd: &Cmd) -> Result<Planned
     }
 }
 
-/// What a text makes of a window's body as a command of Edit, or the fault that is said.
-pub(crate) fn edit_plan(
+/// What a command makes of a window's body, or the fault that is said. Nothing is changed.
+pub fn window_plan(
     alloc: Global,
     windows: &Windows,
     window: u32,
-    text: &[Rune],
+    cmd: &Cmd,
 ) -> Result<Planned, NoMemory>
     requires { IsSome (window_at windows.now.present window) }
     ensures exact { IfOk result (λ planned. as_planned planned
-        ≡ edit_plan window (window_at windows.now.present window) text.now) }
+        ≡ window_plan window (window_at windows.now.present window) (command cmd.now)) }
     ensures sound { IfOk result (λ planned. IfOk planned (IsPlanOf (text_in (window_at windows.now.present window)))) }
 {
-    let Some(cmd) = read_edit(alloc, text)? else {
-        return Ok(Err(CommandFault::BadCommand));
-    };
     match windows.get(window) {
-        Some(pane) => plan_of(alloc, window, pane, &cmd),
+        Some(pane) => plan_of(alloc, window, pane, cmd),
         None => unreachable!(),
     }
 }

@@ -8,7 +8,7 @@ use Rattle.core_actions.specs.declared.fault.ActionFault.{ActionFault}
 use Rattle.core_actions.specs.Outcomes.{Outcome}
 use Rattle.core_actions.specs.Looking.{find_deeds, look_deeds}
 use Rattle.core_actions.specs.Opening.{new_deeds}
-use Rattle.core_edit.specs.Editing.{edit_deeds}
+use Rattle.core_across.specs.Editing.{edit_deeds}
 use Rattle.core_plumb.specs.Looking.{is_plumbed}
 use Rattle.core_exec.specs.Looking.{look_at_text_deeds}
 use Rattle.core_exec.specs.Executing.{said_if_any}

@@ -25,7 +25,7 @@ use Rattle.core_actions.specs.Undoing.{move_deeds}
 use Rattle.core_actions.specs.declared.fault.ActionFault.{ActionFault}
 use Rattle.core_actions.specs.declared.fault.ActionFault.TheVariants as fault
 use Rattle.core_actions.specs.declared.undoing.Move.TheVariants as move
-use Rattle.core_edit.specs.Editing.{edit_deeds}
+use Rattle.core_across.specs.Editing.{edit_deeds}
 
 -- ---- faults are said in the errors window
 

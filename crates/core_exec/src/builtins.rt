@@ -7,16 +7,16 @@ ghost use Rattle.core_actions.specs.Files.{get_outcome, put_outcome};
 ghost use Rattle.core_actions.specs.Editing.{paste_outcome};
 ghost use Rattle.core_actions.specs.Looking.{find_deeds};
 ghost use Rattle.core_actions.specs.Opening.{new_deeds};
-ghost use Rattle.core_edit.specs.Editing.{edit_deeds};
+ghost use Rattle.core_across.specs.Editing.{edit_deeds};
 ghost use Rattle.core_exec.specs.Executing.{or_said, builtin_deeds};
 
 use crate::faults::{Speaker, say};
 use acme_cmd::Builtin;
 use am_text::{NoMemory, Runes};
+use core_across::edit;
 use core_actions::{
     Move, cut, del, delete, dir_at, find, get, move_groups, new_window, paste, put, snarf,
 };
-use core_edit::edit;
 use core_scene::{Entry, Scene};
 use std::alloc::Global;
 

@@ -25,7 +25,7 @@ use Rattle.core_fids.specs.declared.effect.Reaction.{Reaction}
 use Rattle.core_fids.specs.Done.{CanBeMade, IsOfLiving, IsDone}
 use Rattle.core_scene.specs.declared.deed.Entry.{Entry}
 use Rattle.core_scene.specs.Scenes.{SceneState}
-use Rattle.core_exec.specs.Clicks.{side_text, IsSpot}
+use Rattle.core_tasks.specs.Tasks.{acted_text, CanBeActedOn}
 use Rattle.core_tasks.specs.declared.task.Task.{Task}
 use Rattle.core_tasks.specs.declared.task.Task.TheVariants as task
 use Rattle.core_tasks.specs.Tasks.{CanDoTask}
@@ -112,14 +112,14 @@ inside text r order e =
 
 there : (windows : List (Option Window)) (at : Spot) → at.range.q0 ≤ at.range.q1
     → window_refusal (window_at windows at.window) ≡ None → text_refusal (window_at windows at.window) at ≡ None
-    → IsSpot windows at
+    → CanBeActedOn windows at
 there windows at order live fits = record {
   lives = lives (window_at windows at.window) live;
-  inside = inside (side_text (window_at windows at.window) at.side) at.range order fits;
+  inside = inside (acted_text (window_at windows at.window) at.side) at.range order fits;
 }
 
 spot : (windows : List (Option Window)) (at : Spot) → at.range.q0 ≤ at.range.q1
-    → spot_refusal windows at ≡ None → IsSpot windows at
+    → spot_refusal windows at ≡ None → CanBeActedOn windows at
 spot windows at order allowed =
     there windows at order (first_is (window_refusal (window_at windows at.window)) _ allowed)
     (first_then (window_refusal (window_at windows at.window)) _ allowed)

@@ -5,7 +5,7 @@ use Rattle.am_journal.specs.declared.event.Why.{Why}
 use Rattle.am_journal.specs.declared.event.Why.TheVariants as why
 use Rattle.win_ctl.specs.declared.tags.Shown.{Shown}
 use Rattle.core_windows.specs.Windows.{Window, window_at}
-use Rattle.core_exec.specs.Clicks.{side_text}
+use Rattle.core_tasks.specs.Tasks.{acted_text}
 use Rattle.core_intents.specs.Enabled.{first_why}
 
 -- the window lives
@@ -15,7 +15,7 @@ window_refusal (Some window) = None
 
 -- the range lies in the text: the body, or the whole text of the tag
 abbrev pub text_refusal : Option Window → Spot → Option Why
-text_refusal window at = if nat_le at.range.q1 (length (side_text window at.side)) then None else Some why.Range
+text_refusal window at = if nat_le at.range.q1 (length (acted_text window at.side)) then None else Some why.Range
 
 -- why a place isn't one of a text
 abbrev pub spot_refusal : List (Option Window) → Spot → Option Why

@@ -2,7 +2,7 @@
 
 ghost use Rattle.std.specs.Prelude.{◌≡◌, ◌+◌, ◌≤◌, nat_le, length, Some};
 ghost use Rattle.core_windows.specs.Panes.{window_of};
-ghost use Rattle.core_exec.specs.Clicks.{side_text};
+ghost use Rattle.core_tasks.specs.Tasks.{acted_text};
 ghost use Rattle.core_intents.specs.Spots.{text_refusal, spot_refusal, arg_refusal, len_if, words_len};
 
 use crate::enabled::first_why;
@@ -37,7 +37,7 @@ fn is_in(place: usize, first: usize, words: usize, last: usize) -> bool
 // Whether a place lies in the whole text of the tag, or at its end.
 #[tactic(auto, using(crate::proofs::Tagged::tag_place))]
 fn is_in_tag(pane: &Pane, place: usize) -> bool
-    ensures { result ≡ nat_le place (length (side_text (Some (window_of pane.now)) Side.Tag)) }
+    ensures { result ≡ nat_le place (length (acted_text (Some (window_of pane.now)) Side.Tag)) }
 {
     let name = pane.name.as_slice();
     let shown = Shown {
@@ -50,7 +50,7 @@ fn is_in_tag(pane: &Pane, place: usize) -> bool
 }
 
 fn is_in_text(pane: &Pane, side: Side, place: usize) -> bool
-    ensures { result ≡ nat_le place (length (side_text (Some (window_of pane.now)) side)) }
+    ensures { result ≡ nat_le place (length (acted_text (Some (window_of pane.now)) side)) }
 {
     match side {
         Side::Body => place <= pane.body.len(),

@@ -1,6 +1,6 @@
 -- Control messages, one line further.
-use Rattle.std.proofs.Common.{◌≡◌, ℕ, Bool, true, false, cond, List, [], ◌∷◌, length, Some, None, Result, Ok, Err}
-use Rattle.std.proofs.Common.{IsSome, refl, sym, ap, subst, ◌∙◌, arith}
+use Rattle.std.proofs.Common.{◌≡◌, ℕ, Bool, true, false, cond, List, [], ◌∷◌, ◌++◌, length, Some, None, Result, Ok}
+use Rattle.std.proofs.Common.{Err, IsSome, refl, sym, ap, subst, ◌∙◌, arith}
 use Rattle.am_text.specs.Lines.{lines_of}
 use Rattle.am_text.specs.Utf8.{utf8}
 use Rattle.name_tree.specs.Kinds.{file_clashes}
@@ -9,12 +9,11 @@ use Rattle.win_ctl.specs.declared.message.CtlMsg.TheVariants as msg
 use Rattle.win_ctl.specs.declared.message.CtlFault.{CtlFault}
 use Rattle.win_ctl.specs.declared.message.CtlFault.TheVariants as ctl
 use Rattle.win_ctl.specs.Messages.{ctl_of}
-use Rattle.core_addresses.specs.Data.{replacement}
 use Rattle.core_windows.specs.declared.change.Change.TheVariants as change
 use Rattle.core_windows.specs.declared.change.Setting.{Setting}
 use Rattle.core_windows.specs.declared.change.Setting.TheVariants as setting
 use Rattle.core_windows.specs.Possible.{text_in}
-use Rattle.core_windows.specs.Windows.{window_at, set, edited}
+use Rattle.core_windows.specs.Windows.{window_at, set}
 use Rattle.core_windows.proofs.Steps.{lives_then}
 use Rattle.core_scene.specs.declared.deed.Entry.{Entry}
 use Rattle.core_scene.specs.declared.deed.Deed.{Deed}
@@ -27,8 +26,8 @@ use Rattle.core_actions.specs.declared.fault.ActionFault.{ActionFault}
 use Rattle.core_actions.specs.declared.fault.ActionFault.TheVariants as fault
 use Rattle.core_actions.specs.Outcomes.{does as does_all, fails}
 use Rattle.core_actions.specs.Seen.{asks, fits}
-use Rattle.core_actions.specs.Files.{whole_of, fill_deeds, fill_outcome, file_text, store_deeds, put_deeds, put_at}
-use Rattle.core_actions.specs.Files.{is_own, clean_if}
+use Rattle.core_actions.specs.Files.{get_deeds, fill_outcome, file_text, store_deeds, put_deeds, put_at}
+use Rattle.core_actions.specs.Files.{is_own, clean_if, put_noted}
 use Rattle.core_actions.specs.declared.files.Saved.{Saved}
 use Rattle.core_actions.specs.Paths.{path_of}
 use Rattle.core_tasks.specs.declared.control.Next.{Next}
@@ -52,13 +51,11 @@ del_lives e w s true h n = h
 del_lives e w s false h n = absurd cc
 
 fill_lives : (e : Entry) (w : ℕ) (text : List ℕ) (s : SceneState) → IsSome (window_at s.windows w)
-    → LivesAfter e w s (fill_deeds w text s)
-fill_lives e w text s h =
-    lives_then (set setting.Clean) w _ (lives_then (edited (replacement (whole_of (text_in (window_at s.windows w)))
-    text) e.at) w s.windows h)
+    → LivesAfter e w s (get_deeds w text s)
+fill_lives e w text s h = lives_then (set setting.Clean) w _ (lives_then _ w s.windows h)
 
 fill_if_lives : (e : Entry) (w : ℕ) (text : List ℕ) (s : SceneState) (b : Bool) → IsSome (window_at s.windows w)
-    → LivesAfter e w s (cond b (does_all (fill_deeds w text s)) (fails fault.TextTooLong)).deeds
+    → LivesAfter e w s (cond b (does_all (get_deeds w text s)) (fails fault.TextTooLong)).deeds
 fill_if_lives e w text s true h = fill_lives e w text s h
 fill_if_lives e w text s false h = h
 
@@ -68,18 +65,18 @@ get_lives e w (Err f) s h = h
 get_lives e w (Ok text) s h = fill_if_lives e w text s (fits 0 (length text)) h
 
 clean_lives : (e : Entry) (w : ℕ) (b : Bool) (s : SceneState) → IsSome (window_at s.windows w)
-    → LivesAfter e w s (clean_if b w)
+    → LivesAfter e w s (clean_if b w ++ put_noted w)
 clean_lives e w true s h = set_lives e w setting.Clean s h
 clean_lives e w false s h = h
 
 save_lives : (e : Entry) (w : ℕ) (saved : Saved) (s : SceneState) → IsSome (window_at s.windows w)
-    → LivesAfter e w s (put_deeds w saved s)
+    → LivesAfter e w s (put_deeds w saved s ++ put_noted w)
 save_lives e w saved s h = clean_lives e w (is_own (window_at s.windows w) saved.path)
     (done_all e s (store_deeds w saved s)) h
 
 save_if_lives : (e : Entry) (w : ℕ) (path text : List ℕ) (s : SceneState) (b : Bool) → IsSome (window_at s.windows w)
     → LivesAfter e w s (cond b (fails fault.FileNotFound) (does_all
-    (put_deeds w (record { path = path; text = text }) s))).deeds
+    (put_deeds w (record { path = path; text = text }) s ++ put_noted w))).deeds
 save_if_lives e w path text s true h = h
 save_if_lives e w path text s false h = save_lives e w (record { path = path; text = text }) s h
 

@@ -1,8 +1,10 @@
 -- What a step does to the scene, before it is known which deeds that takes.
 use Rattle.std.specs.Prelude.{◌≡◌, ℕ, false, List, [], ◌∷◌, Option, Some, None, IsSome, IfSome}
 use Rattle.am_text.specs.Lines.{lines_of}
+use Rattle.am_journal.specs.declared.event.Side.{Side}
+use Rattle.am_journal.specs.declared.event.Spot.{Spot}
 use Rattle.name_tree.specs.Kinds.{file_clashes, directory_clashes}
-use Rattle.core_windows.specs.Windows.{window_at}
+use Rattle.core_windows.specs.Windows.{Window, window_at}
 use Rattle.core_windows.specs.Possible.{CanChangeAll}
 use Rattle.core_scene.specs.declared.deed.Entry.{Entry}
 use Rattle.core_scene.specs.declared.deed.Deed.{Deed}
@@ -12,7 +14,7 @@ use Rattle.core_scene.specs.Scenes.{SceneState}
 use Rattle.core_fids.specs.declared.refusal.Refusal.{Refusal}
 use Rattle.core_rules.specs.Writing.{rules_outcome, rest_outcome, held_after, clear_deeds}
 use Rattle.core_rules.specs.Sending.{send_outcome}
-use Rattle.core_exec.specs.Clicks.{IsSpot}
+use Rattle.core_exec.specs.Clicks.{side_text, IsSpot}
 use Rattle.core_exec.specs.Acting.{exec_at_deeds, look_at_deeds, act_on_deeds}
 use Rattle.core_tasks.specs.declared.task.Task.{Task}
 use Rattle.core_tasks.specs.declared.task.Task.TheVariants as task
@@ -63,11 +65,19 @@ task_held e (task.AddsRules text) s = Some (held_after text (rules_outcome text 
 task_held e (task.AddsRest text) s = None
 task_held e (task.Sends text) s = Some (send_outcome e text s).held
 
+-- the text in which a range that is acted on has to lie
+abbrev pub acted_text : Option Window → Side → List ℕ
+acted_text = side_text
+
+-- the range lies in it, and the window lives
+abbrev pub CanBeActedOn : List (Option Window) → Spot → Type 0
+CanBeActedOn = IsSpot
+
 -- what a task names is there, and what it stores or makes clashes with nothing
 abbrev pub CanDoTask : Entry → SceneState → Task → Type 0
 CanDoTask e s (task.Changes changes) = CanChangeAll e.at s.windows changes
-CanDoTask e s (task.Exec at chord) = IsSpot s.windows at × IfSome chord (IsSpot s.windows)
-CanDoTask e s (task.Look at) = IsSpot s.windows at
+CanDoTask e s (task.Exec at chord) = CanBeActedOn s.windows at × IfSome chord (CanBeActedOn s.windows)
+CanDoTask e s (task.Look at) = CanBeActedOn s.windows at
 CanDoTask e s (task.Controls w text) = IsSome (window_at s.windows w)
 CanDoTask e s (task.Back w number) = IsSome (window_at s.windows w)
 CanDoTask e s (task.Stores path bytes) = file_clashes s.files path ≡ false

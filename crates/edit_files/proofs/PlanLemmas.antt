@@ -1,9 +1,9 @@
 -- Plans, window by window.
 use Rattle.std.proofs.Common.{◌≡◌, ℕ, zero, suc, ◌+◌, ◌<◌, ◌≤◌, Bool, List, [], ◌∷◌, ◌++◌, length, get_or}
-use Rattle.std.proofs.Common.{drop, Option, refl, sym, ap, ◌∙◌, arith, append_assoc}
+use Rattle.std.proofs.Common.{drop, Option, Some, None, refl, sym, ap, subst, ◌∙◌, arith, append_assoc}
 use Rattle.std.proofs.lemmas.List.{append-nil}
-use Rattle.std.specs.Prelude.{Result, Ok, Err}
-use Rattle.edit_files.specs.Across.{behind, told_here, plan_list, and_then, plans_from}
+use Rattle.std.specs.Prelude.{Result, Ok, Err, IfSome}
+use Rattle.edit_files.specs.Across.{behind, told_here, plan_list, and_then, plans_from, AllSuit}
 
 drop-at : {X : Type 0} (xs : List X) (k : ℕ) (d : X) → k < length xs → drop k xs ≡ get_or xs k d ∷ drop (suc k) xs
 drop-at [] k d l = absurd (omega (arith, l))
@@ -15,6 +15,24 @@ drop-all [] zero l = refl
 drop-all [] (suc k) l = refl
 drop-all (x ∷ xs) zero l = absurd (omega (arith, l))
 drop-all (x ∷ xs) (suc k) l = drop-all xs k (omega (arith, l))
+
+module _ {P : Type 0} where
+  suit_both : (suits : ℕ → P → Type 0) (xs ys : List (ℕ × P)) → AllSuit suits xs → AllSuit suits ys
+      → AllSuit suits (xs ++ ys)
+  suit_both suits [] ys h i = i
+  suit_both suits (x ∷ xs) ys h i = (h.0, suit_both suits xs ys h.1 i)
+
+  suits_alone : (suits : ℕ → P → Type 0) (k : ℕ) (plan : Option P) → IfSome plan (suits k)
+      → AllSuit suits (plan_list k plan)
+  suits_alone suits k None h = tt
+  suits_alone suits k (Some p) h = (h, tt)
+
+  -- what is known of the plan of one window more
+  pub all_suit : (suits : ℕ → P → Type 0) (k : ℕ) (all more : List (ℕ × P)) (plan : Option P)
+      → more ≡ all ++ plan_list k plan → IfSome plan (suits k) → AllSuit suits all → AllSuit suits more
+  all_suit suits k all more plan m h i =
+      subst (λ (ps : List (ℕ × P)). AllSuit suits ps) (sym m) (suit_both suits all (plan_list k plan) i
+      (suits_alone suits k plan h))
 
 module _ {P F : Type 0} where
   behind_more : (xs ys : List (ℕ × P)) (r : Result (List (ℕ × P)) (ℕ × F)) →

@@ -21,6 +21,11 @@ module _ {P : Type 0} where
   plan_list k None = []
   plan_list k (Some plan) = (k, plan) ∷ []
 
+  -- what is known of each plan at the place of its window
+  abbrev pub AllSuit : (ℕ → P → Type 0) → List (ℕ × P) → Type 0
+  AllSuit suits [] = Unit {0}
+  AllSuit suits (plan ∷ plans) = suits plan.0 plan.1 × AllSuit suits plans
+
 module _ {P F : Type 0} where
   -- plans before those of the windows behind them
   abbrev pub behind : List (ℕ × P) → Result (List (ℕ × P)) (ℕ × F) → Result (List (ℕ × P)) (ℕ × F)

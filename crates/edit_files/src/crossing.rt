@@ -1,10 +1,11 @@
 //! What a command makes of the windows that it takes.
 
 ghost use Rattle.std.specs.Prelude.{◌≡◌, ◌<◌, true, false, [], ◌∷◌, ◌++◌, length, slice_index_or};
-ghost use Rattle.std.specs.Prelude.{Ok, Err, IfOk, IfErr, OnOk, IsTrue};
+ghost use Rattle.std.specs.Prelude.{Ok, Err, IfOk, IfErr, IfSome, OnOk, IsTrue};
 ghost use Rattle.re_syntax.specs.Tree.{tree};
 ghost use Rattle.edit_parts.specs.Tree.{command};
-ghost use Rattle.edit_files.specs.Across.{has_match, takes, told_here, plan_list, plans_from, across_told, is_across};
+ghost use Rattle.edit_files.specs.Across.{has_match, takes, told_here, plan_list, AllSuit, plans_from, across_told};
+ghost use Rattle.edit_files.specs.Across.{is_across};
 ghost use Rattle.edit_files.specs.Faults.{Tells};
 
 use crate::command::FilesCmd;
@@ -70,6 +71,7 @@ fn told_at<W: Windows>(
         (takes with_match (tree re.now) (slice_index_or (W.names windows.now) k [])) ≡ Ok plan) }
     ensures err { IfErr result (λ fault. Tells fault (told_here k (W.runs windows.now k (command cmd.now))
         (takes with_match (tree re.now) (slice_index_or (W.names windows.now) k [])))) }
+    ensures suits { IfOk result (λ plan. IfSome plan (W.suits windows.now k)) }
 {
     match takes(alloc, with_match, re, windows.name(k)) {
         Ok(true) => {}
@@ -105,6 +107,7 @@ fn plans<W: Windows>(
         (takes with_match (tree re.now)) 0 (W.names windows.now) ≡ Ok plans) }
     ensures err { IfErr result (λ fault. Tells fault (plans_from (λ k. W.runs windows.now k (command cmd.now))
         (takes with_match (tree re.now)) 0 (W.names windows.now))) }
+    ensures suits { IfOk result (AllSuit (W.suits windows.now)) }
 {
     let count = windows.len();
     let mut all = Items::new(alloc);
@@ -119,7 +122,7 @@ fn plans<W: Windows>(
 }
 
 /// The plans of the windows that `X` or `Y` takes, by rising number, or the fault of the first one that has one.
-/// Nothing is changed.
+/// Nothing is changed. What windows tell of a plan of theirs holds of each.
 pub fn across<W: Windows>(
     alloc: Global,
     windows: &W,
@@ -128,6 +131,7 @@ pub fn across<W: Windows>(
     requires { IsTrue (is_across cmd.now) }
     ensures ok { IfOk result (λ plans. across_told (W.runs windows.now) (W.names windows.now) cmd.now ≡ Ok plans) }
     ensures err { IfErr result (λ fault. Tells fault (across_told (W.runs windows.now) (W.names windows.now) cmd.now)) }
+    ensures suits { IfOk result (AllSuit (W.suits windows.now)) }
 {
     match cmd {
         FilesCmd::Each(re, cmd) => plans(alloc, windows, true, re, cmd),

@@ -1,0 +1,10 @@
+pub mod Joined
+pub mod Readings
+pub mod Rising
+pub mod TakenPlans
+pub mod OtherWindows
+pub mod Changing
+pub mod Written
+pub mod Dropped
+pub mod Placing
+pub mod Told

@@ -1,0 +1,10 @@
+pub mod Commands
+pub mod Plans
+pub mod FileFaults
+pub mod Addressed
+pub mod Dropping
+pub mod Entering
+pub mod Storing
+pub mod FileCommands
+pub mod Editing
+pub mod EditLaws

@@ -1,5 +1,0 @@
-use Rattle.core_edit.proofs.Saying.{are_only_said}
-use Rattle.core_edit.proofs.laws.faults_are_only_said.Goals as goal
-
-pub returns : goal.returns
-returns c = are_only_said
