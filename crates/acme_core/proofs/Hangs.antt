@@ -1,5 +1,5 @@
 -- What is ready for a hang-up.
-use Rattle.std.proofs.Common.{◌≡◌, ℕ, ◌+◌, true, List, [], ◌++◌, length, None, refl, sym, ap, subst, ◌∙◌}
+use Rattle.std.proofs.Common.{◌≡◌, ℕ, ◌+◌, true, List, [], ◌∷◌, length, None, refl, sym, ap, subst, ◌∙◌}
 use Rattle.std.specs.Prelude.{slice_set}
 use Rattle.std.specs.Global.{Vec}
 use Rattle.am_journal.specs.declared.event.Event.{Event}
@@ -21,6 +21,7 @@ use Rattle.core_events.proofs.PortIdles.{none_said, none_taken}
 use Rattle.core_events.proofs.Turns.{all_none, book_all_none}
 use Rattle.acme_core.proofs.Few.{lives_less}
 use Rattle.core_steps.proofs.Idling.{none_served}
+use Rattle.core_steps.proofs.Orders.{none_asked}
 use Rattle.core_parts.specs.declared.parts.Parts.{Parts}
 use Rattle.core_outputs.specs.declared.reply.Reply.{Reply}
 use Rattle.core_parts.specs.declared.connection.Connection.{Connection}
@@ -33,6 +34,7 @@ use Rattle.core_tasks.specs.Tasks.{task_deeds, task_held}
 use Rattle.core_intents.specs.Doings.{enabled_at, doing_of, CanBeDone}
 use Rattle.core_parts.specs.Kinds.{kind_of, is_hang}
 use Rattle.core_parts.specs.Parts.{present_of, AreSteady}
+use Rattle.core_steps.specs.Order.{as_asked}
 use Rattle.core_steps.specs.Ready.{HasReady}
 use Rattle.core_parts.specs.States.{Present}
 use Rattle.core_steps.specs.Replies.{replies_of}
@@ -59,8 +61,10 @@ hang_ready p (event.Hang conn why) at replies h joined steady sound idle ports p
     let b : BookState = p.scene.book.kept in
     let silent : served_of b ≡ None = none_served b idle in
     let q : PortsState = p.scene.ports.kept in
-    let said : served_all (p.entries + 1) b ++ ports_served q ≡ [] = ap (λ (xs : List Response). xs ++ ports_served q)
-    (all_none (p.entries + 1) b silent) ∙ none_said q ports_idle in
+    let said : as_asked p.sessions.kept (served_all (p.entries + 1) b ∷ ports_served q ∷ []) ≡ [] =
+    none_asked p.sessions.kept (served_all (p.entries + 1) b) (ports_served q) (all_none (p.entries + 1) b silent)
+    (none_said q ports_idle)
+    in
     record {
       at = numbered;
       effect = refl;

@@ -58,7 +58,7 @@ abbrev pub finished : Facts → WindowStory → List Response → List WindowIte
 finished f story first items =
     let at = f.entries + 1 in
     let put = put_living [] (book_with [] f) items in
-    let said = first ++ served_all at put ++ [] in
+    let said = first ++ served_all at put in
     record (standing [] [] f) {
       entries = at;
       tables = ended (tables_with []) said;
@@ -135,17 +135,17 @@ one_item origin q0 q1 l none =
 finished_with : (f : Facts) (story : WindowStory) (first : List Response) (item : Item)
     → finished f story first (of_window 1 item ∷ [])
     ≡ record (standing [] [] (with_item (gone_on f) story item)) {
-      tables = ended (tables_with []) (first ++ [] ++ []);
-      unsent = put_replies (f.unsent ∷ replicate 63 nothing_unsent) (replies_of (first ++ [] ++ []));
-      replies = replies_of (first ++ [] ++ []);
+      tables = ended (tables_with []) (first ++ []);
+      unsent = put_replies (f.unsent ∷ replicate 63 nothing_unsent) (replies_of (first ++ []));
+      replies = replies_of (first ++ []);
     }
 unfolding served_most book_served_most port_served_most after_serving_most
 finished_with f story first item =
     ap (λ (files : List WindowFile). record (standing [] [] (with_item (gone_on f) story item)) {
-      tables = ended (tables_with []) (first ++ [] ++ []);
+      tables = ended (tables_with []) (first ++ []);
       scene = record no_scene { book = record { files = files; owners = 1 ∷ []; reads = []; latest = f.latest } };
-      unsent = put_replies (f.unsent ∷ replicate 63 nothing_unsent) (replies_of (first ++ [] ++ []));
-      replies = replies_of (first ++ [] ++ []);
+      unsent = put_replies (f.unsent ∷ replicate 63 nothing_unsent) (replies_of (first ++ []));
+      replies = replies_of (first ++ []);
     }) (stays_listed (file_with f.items f.carry) (f.items ++ fresh item ∷ []) f.carry)
 
 pub write_step : (f : Facts) (l : ℕ) → l < 128 → length (text_of f) < 16777216

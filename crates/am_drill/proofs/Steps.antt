@@ -84,7 +84,7 @@ book_asked_as w f = book_asked false (asked_as w f) (book_with [] f) reader (f.e
 
 abbrev pub polled_with : Bool → Facts → List Response → BookState → State
 polled_with w f served book =
-    let said = (((if_said 0 10 1 (said_to false (asked_as w f)) ++ []) ++ []) ++ served) ++ [] in
+    let said = ((if_said 0 10 1 (said_to false (asked_as w f)) ++ []) ++ []) ++ served in
     record (standing [] [] f) {
       entries = f.entries + 1;
       tables = ended (waits_unless (said_to false (asked_as w f)) (tables_with []) 0 10 2) said;
@@ -112,7 +112,7 @@ with_book s book = record s { scene = record no_scene { book = book } }
 -- a Tflush, by what is served before it
 abbrev pub flushed_with : Facts → List Response → BookState → State
 flushed_with f served book =
-    let said = (response 0 11 r.Flush ∷ served) ++ [] in
+    let said = response 0 11 r.Flush ∷ served in
     record (standing [] [] f) {
       entries = f.entries + 1;
       tables = after_done (ended (tables_with (reading ∷ [])) said) 0 10;

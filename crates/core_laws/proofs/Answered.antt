@@ -58,7 +58,8 @@ use Rattle.core_intents.specs.Origins.{message_origin}
 use Rattle.acme_core.specs.Run.{step, run, present_after, enabled, AreEnabled}
 use Rattle.core_steps.specs.PortReads.{port_read_in, if_port_said, asked_said, asked_ports}
 use Rattle.core_steps.specs.Stages.{response, asker_of, if_said, answer_said, answer_book, acted, with_fid, read_tables}
-use Rattle.core_steps.specs.Stages.{read_book, put_book, open_ports, said, tables_after}
+use Rattle.core_steps.specs.Stages.{grown_tables, read_book, put_book, open_ports, served, said, tables_after}
+use Rattle.core_steps.proofs.Orders.{all_asked, none_asked}
 use Rattle.core_parts.specs.States.{Present, State, present, next_entry}
 use Rattle.acme_core.proofs.Goes.{run-push}
 use Rattle.acme_core.proofs.Idling.{run_idle, ports_idle_after}
@@ -158,8 +159,7 @@ abbrev front_of : Present → ℕ → Doing → List Response
 front_of s conn d = clunked s.tables conn d.effect
 
 abbrev rest_of : Present → ℕ → ℕ → Doing → List Response
-rest_of s conn tag d = deletions s.tables (deleted_by d.deeds) ++ served_all (next_entry s)
-    (put_book s (kind.Asks conn tag) d) ++ ports_served (open_ports s (kind.Asks conn tag) d)
+rest_of s conn tag d = deletions s.tables (deleted_by d.deeds) ++ served s (kind.Asks conn tag) d
 
 -- the event files and the ports have no others than the sessions
 waited_there : (s : State) (conn tag : ℕ) → WaitsAreTied s → Waited s conn tag
@@ -206,33 +206,31 @@ says_once s conn tag d body tied is idle alone =
     let k = kind.Asks conn tag in
     let front : List Response = clunked s.tables conn d.effect in
     let gone : List Response = deletions s.tables (deleted_by d.deeds) in
-    let served : List Response = served_all (next_entry p) (put_book p k d) in
-    let later : List Response = ports_served (open_ports p k d) in
+    let later : List Response = served p k d in
     let one : List Response = front ++ response conn tag body ∷ [] in
     let told_gone : All (TellsAny s) gone = tell_deletions (Waited s) s.tables (deleted_by d.deeds) (waiting_waits s) in
-    let told_served : All (TellsAny s) served = tell_served (Waited s) (next_entry p) (put_book p k d)
-    (waited_put s conn tag d body is idle) in
-    let told_later : All (TellsAny s) later = tell_ports (Waited s) (open_ports p k d)
-    (waited_open s conn tag d body is) in
-    let any : All (TellsAny s) (front ++ (gone ++ served ++ later)) =
-    All-append (TellsAny s) front (gone ++ served ++ later) (tell_clunked (Waited s) s.tables conn d.effect
-    (waiting_waits s))
-    (All-append (TellsAny s) (gone ++ served) later (All-append (TellsAny s) gone served told_gone told_served)
-    told_later)
+    let told_later : All (TellsAny s) later =
+    all_asked (TellsAny s) (grown_tables p k d) (served_all (next_entry p) (put_book p k d))
+    (ports_served (open_ports p k d))
+    (tell_served (Waited s) (next_entry p) (put_book p k d) (waited_put s conn tag d body is idle))
+    (tell_ports (Waited s) (open_ports p k d) (waited_open s conn tag d body is))
     in
-    let others : All (TellsAWait s) (front ++ (gone ++ served ++ later)) =
+    let any : All (TellsAny s) (front ++ (gone ++ later)) =
+    All-append (TellsAny s) front (gone ++ later) (tell_clunked (Waited s) s.tables conn d.effect (waiting_waits s))
+    (All-append (TellsAny s) gone later told_gone told_later)
+    in
+    let others : All (TellsAWait s) (front ++ (gone ++ later)) =
     All-weaker (TellsAny s) (TellsAWait s) (λ x waits. waited_there s x.conn x.message.tag tied waits)
-    (front ++ (gone ++ served ++ later)) any
+    (front ++ (gone ++ later)) any
     in
     record {
       front = front;
-      rest = gone ++ served ++ later;
+      rest = gone ++ later;
       is = ap (λ (a : Option Answer). front ++ answer_said (with_fid p k d) s.scene.book conn tag a
-          ++ asked_said (read_tables p k d) (acted p d).ports (port_read_in conn tag a) ++ gone ++ served ++ later) is
-          ∙ ap (λ (xs : List Response). xs ++ gone ++ served ++ later) (append-nil one)
-          ∙ ap (λ (xs : List Response). xs ++ later) (append_assoc one gone served)
-          ∙ append_assoc one (gone ++ served) later
-          ∙ append_assoc front (response conn tag body ∷ []) (gone ++ served ++ later);
+          ++ asked_said (read_tables p k d) (acted p d).ports (port_read_in conn tag a) ++ gone ++ later) is
+          ∙ ap (λ (xs : List Response). xs ++ gone ++ later) (append-nil one)
+          ∙ append_assoc one gone later
+          ∙ append_assoc front (response conn tag body ∷ []) (gone ++ later);
       once = none_told s conn tag d alone others;
       others = others;
     }
@@ -243,7 +241,10 @@ version_alone : (before : Journal) (conn tag : ℕ) (o : Origin) (msize : Option
     ++ rest_of (present_after before) conn tag (message_doing (present_after before)
     (does (effect.Begins msize) [] body) o) ≡ []
 unfolding task_deeds task_refusal
-version_alone before conn tag o msize body = silent_after before (next_entry (present_after before))
+version_alone before conn tag o msize body =
+    silent_after before (next_entry (present_after before))
+    (grown_tables (present_after before) (kind.Asks conn tag)
+    (message_doing (present_after before) (does (effect.Begins msize) [] body) o))
 
 alone_by : (before : Journal) (conn : ℕ) (msg : TMsg) → AreEnabled before
     → enabled before (event.Msg conn msg) ≡ None → IsAlone (run before) conn msg.tag
@@ -333,12 +334,14 @@ plain_said : (s : State) (o : Origin) (conn tag fid opening count : ℕ) → Are
     (read_said s.tables s.scene.book (asker_of conn tag opening count))
 unfolding task_deeds task_refusal
 plain_said s o conn tag fid opening count idle ports none =
-    let own : List Response = if_said conn tag opening (read_said s.tables s.scene.book
-    (asker_of conn tag opening count)) in
-    ap (λ (xs : List Response). own ++ [] ++ [] ++ xs ++ ports_served s.scene.ports)
-    (read_served s s.tables (asker_of conn tag opening count) idle none)
-    ∙ ap (λ (xs : List Response). own ++ [] ++ [] ++ [] ++ xs) (none_said s.scene.ports ports)
-    ∙ append-nil (own ++ [] ++ [] ++ []) ∙ append-nil (own ++ [] ++ []) ∙ append-nil (own ++ []) ∙ append-nil own
+    let x : Asker = asker_of conn tag opening count in
+    let at : ℕ = next_entry (present s) in
+    let own : List Response = if_said conn tag opening (read_said s.tables s.scene.book x) in
+    ap (λ (xs : List Response). own ++ [] ++ [] ++ xs)
+    (none_asked (grown_tables (present s) (kind.Asks conn tag) (plain_read (present s) o fid opening count))
+    (served_all at (put_living [] (book_read s.tables s.scene.book x at) s.scene.items)) (ports_served s.scene.ports)
+    (read_served s s.tables x idle none) (none_said s.scene.ports ports))
+    ∙ append-nil (own ++ [] ++ []) ∙ append-nil (own ++ []) ∙ append-nil own
 
 -- one that waits is among those that do
 one_waits : (t : Tables) (conn tag fid : ℕ) → list_any (is_waiting conn tag)
@@ -475,10 +478,12 @@ port_said_now s o conn tag fid opening count idle ports none =
     let own : List Response = if_port_said x (port_said s.tables s.scene.ports x) in
     let after : PortsState = ports_read s.tables s.scene.ports x in
     let at : ℕ = next_entry (present s) in
-    ap (λ (xs : List Response). own ++ [] ++ xs ++ ports_served after)
+    ap (λ (xs : List Response). own ++ [] ++ xs)
+    (none_asked (grown_tables (present s) (kind.Asks conn tag) (plain_port (present s) o fid opening count))
+    (served_all at (put_living [] s.scene.book s.scene.items)) (ports_served after)
     (silent at [] s.scene.book s.scene.items (idle_end s.entries s.scene.book idle) none)
-    ∙ ap (λ (xs : List Response). own ++ [] ++ [] ++ xs) (none_said after (idle_read s.tables s.scene.ports x ports))
-    ∙ append-nil (own ++ [] ++ []) ∙ append-nil (own ++ []) ∙ append-nil own
+    (none_said after (idle_read s.tables s.scene.ports x ports)))
+    ∙ append-nil (own ++ []) ∙ append-nil own
 
 -- one to which nothing is said must wait
 port_must : (s : PortsState) (x : Asker) (refusal : Option Refusal) (waits : Bool)

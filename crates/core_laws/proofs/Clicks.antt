@@ -1,6 +1,6 @@
 -- An Exec or a Look in a window whose event file is open does nothing but to make an item.
-use Rattle.std.proofs.Common.{◌≡◌, ℕ, ◌+◌, Bool, true, cond, List, [], ◌∷◌, ◌++◌, Option, Some, None, refl, sym, ap}
-use Rattle.std.proofs.Common.{subst, ◌∙◌, append-nil}
+use Rattle.std.proofs.Common.{◌≡◌, ℕ, ◌+◌, Bool, true, cond, List, [], ◌∷◌, Option, Some, None, refl, sym, ap}
+use Rattle.std.proofs.Common.{subst, ◌∙◌}
 use Rattle.std.specs.List.{fold}
 use Rattle.std.specs.Option.{option_map}
 use Rattle.win_events.specs.declared.item.Item.{Item}
@@ -23,6 +23,7 @@ use Rattle.core_exec.specs.declared.click.Clicked.{Clicked}
 use Rattle.core_exec.specs.Looking.{look_step}
 use Rattle.core_exec.specs.Clicks.{clicked_at, own_text, argument_if_any, exec_item, look_item}
 use Rattle.core_exec.specs.Acting.{exec_click, exec_clicked, exec_at_deeds, look_click, look_clicked, look_at_deeds}
+use Rattle.fid_table.specs.Tables.{Tables}
 use Rattle.core_events.specs.Putting.{put_one}
 use Rattle.core_events.specs.Serving.{served_all, book_served_all}
 use Rattle.core_tasks.specs.Tasks.{task_deeds}
@@ -34,7 +35,9 @@ use Rattle.core_parts.specs.Doing.{Doing}
 use Rattle.core_parts.specs.Kinds.{kind_of}
 use Rattle.acme_core.specs.Run.{step, run, present_after}
 use Rattle.core_steps.specs.Replies.{replies_of}
+use Rattle.core_steps.specs.Order.{as_asked}
 use Rattle.core_steps.specs.Stages.{said, tables_after, scene_after}
+use Rattle.core_steps.proofs.Orders.{first_alone}
 use Rattle.core_closing.specs.Closing.{left_unsent}
 use Rattle.core_parts.specs.States.{State, present, next_entry, start_of}
 use Rattle.plumb_ports.specs.PortsState.{PortsState}
@@ -99,8 +102,9 @@ abbrev Told : State → Kind → ℕ → Doing → Option Item → Type 0
 Told s k w d o = OnlyTells s (after_kind s k d) (said (present s) k d) w o
 
 -- nothing is said to reads of ports
-quiet : (x : SceneState) (heard : List Response) → ArePortsIdle x.ports → heard ++ ports_served x.ports ≡ heard
-quiet x heard idle = ap (λ (xs : List Response). heard ++ xs) (none_said x.ports idle) ∙ append-nil heard
+quiet : (t : Tables) (x : SceneState) (heard : List Response) → ArePortsIdle x.ports
+    → as_asked t (heard ∷ ports_served x.ports ∷ []) ≡ heard
+quiet t x heard idle = first_alone t heard (ports_served x.ports) (none_said x.ports idle)
 
 -- and they stay
 stays : (x : SceneState) → ArePortsIdle x.ports → record x { ports = ports_after_serving x.ports } ≡ x
@@ -115,7 +119,7 @@ tells : (s : State) (x : SceneState) (w : ℕ) (o : Option Item) → ArePortsIdl
     → is_open_window x.book w ≡ true → Told (record s { scene = tidy x }) kind.Acts w (telling (item_deeds w o)) o
 tells s x w None idle opened = record {
   book = refl;
-  says = quiet x (served_all (s.entries + 1) x.book) idle;
+  says = quiet s.tables x (served_all (s.entries + 1) x.book) idle;
   connections = refl;
   sessions = done_sessions s.tables (said (present (record s { scene = tidy x })) kind.Acts (telling []));
   windows = refl;
@@ -123,7 +127,8 @@ tells s x w None idle opened = record {
 }
 tells s x w (Some item) idle opened = record {
   book = rw opened (ap (λ (b : BookState). book_served_all (s.entries + 1) b) (put_is x.book w item opened));
-  says = rw opened (quiet x (served_all (s.entries + 1) (put_one x.book (record { window = w; item = item }))) idle
+  says = rw opened
+      (quiet s.tables x (served_all (s.entries + 1) (put_one x.book (record { window = w; item = item }))) idle
       ∙ ap (λ (b : BookState). served_all (s.entries + 1) b) (put_is x.book w item opened));
   connections = refl;
   sessions = done_sessions s.tables (said (present (record s { scene = tidy x })) kind.Acts

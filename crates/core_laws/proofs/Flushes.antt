@@ -81,9 +81,9 @@ flush_said : (before : Journal) (conn tag oldtag : ℕ) (there : Bool)
     (flush_or (not there) oldtag) F) ≡ response conn tag (flush_body there) ∷ []
 unfolding task_deeds task_refusal
 flush_said before conn tag oldtag true = ap (λ (xs : List Response). response conn tag (flush_body true) ∷ xs)
-    (silent_after before (next_entry (present (run before))))
+    (silent_after before (next_entry (present (run before))) (run before).tables)
 flush_said before conn tag oldtag false = ap (λ (xs : List Response). response conn tag (flush_body false) ∷ xs)
-    (silent_after before (next_entry (present (run before))))
+    (silent_after before (next_entry (present (run before))) (run before).tables)
 
 pub each_flush : EachFlushIsAnswered
 each_flush before conn tag oldtag = flush_said before conn tag oldtag (is_there (msize_of (run before).tables conn))

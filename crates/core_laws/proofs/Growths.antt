@@ -153,6 +153,7 @@ deed_more e s (deed.Snarfs text) = more_itself s.ports
 deed_more e s (deed.Stores path bytes) = more_itself s.ports
 deed_more e s (deed.MakesDir path) = more_itself s.ports
 deed_more e s (deed.Requests job) = more_itself s.ports
+deed_more e s (deed.Notes w op) = more_itself s.ports
 deed_more e s (deed.AddsRules sets vars text) = more_itself s.ports
 deed_more e s deed.ClearsRules = more_itself s.ports
 deed_more e s (deed.AddsPort name) = add_more s.ports name (number_of s.ports.ports name)

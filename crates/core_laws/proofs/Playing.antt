@@ -1,18 +1,20 @@
 -- Journals of enabled events, in parts.
 use Rattle.std.specs.List.{fold}
-use Rattle.std.proofs.Common.{◌≡◌, ℕ, refl, List, [], ◌∷◌, ◌++◌, None, sym, ap, subst, ◌∙◌, append_assoc, append-nil}
+use Rattle.std.proofs.Common.{◌≡◌, ℕ, refl, List, [], ◌∷◌, ◌++◌, None, sym, ap, subst, append_assoc, append-nil}
 use Rattle.am_journal.specs.Lawful.{IsLawful}
 use Rattle.am_journal.specs.declared.event.Event.{Event}
 use Rattle.am_counter.specs.Played.{ArePlayed}
+use Rattle.fid_table.specs.Tables.{Tables}
 use Rattle.core_events.specs.Putting.{put_living}
 use Rattle.core_events.specs.Serving.{served_all}
-use Rattle.core_events.specs.declared.response.Response.{Response}
 use Rattle.core_events.specs.PortServing.{ports_served}
 use Rattle.core_events.proofs.PortIdles.{none_said}
 use Rattle.acme_core.specs.Run.{step, run, enabled, AreEnabled, enabled_in}
 use Rattle.core_parts.specs.States.{State, start_of}
 use Rattle.acme_core.proofs.Idling.{idle_after, ports_idle_after}
+use Rattle.core_steps.specs.Order.{as_asked}
 use Rattle.core_steps.proofs.Idling.{silent}
+use Rattle.core_steps.proofs.Orders.{none_asked}
 use Rattle.am_journal.specs.declared.event.Format.{Format}
 use Rattle.am_journal.specs.declared.event.Journal.{Journal}
 use Rattle.am_journal.specs.Journal.{journal_in, longer}
@@ -92,9 +94,11 @@ unfolding run
 no_items journal = fold_items (start_of journal.format) journal.events refl
 
 -- so an entry without deeds answers no read that waits
-pub silent_after : (journal : Journal) (at : ℕ) → served_all at
-    (put_living [] (run journal).scene.book (run journal).scene.items) ++ ports_served (run journal).scene.ports ≡ []
-silent_after journal at =
-    ap (λ (xs : List Response). xs ++ ports_served (run journal).scene.ports)
+pub silent_after : (journal : Journal) (at : ℕ) (t : Tables) → as_asked t (served_all at
+    (put_living [] (run journal).scene.book (run journal).scene.items) ∷ ports_served (run journal).scene.ports ∷ [])
+    ≡ []
+silent_after journal at t =
+    none_asked t (served_all at (put_living [] (run journal).scene.book (run journal).scene.items))
+    (ports_served (run journal).scene.ports)
     (silent at [] (run journal).scene.book (run journal).scene.items (idle_after journal) (no_items journal))
-    ∙ none_said (run journal).scene.ports (ports_idle_after journal)
+    (none_said (run journal).scene.ports (ports_idle_after journal))

@@ -121,6 +121,7 @@ module _ (P : Asker → Type 0) where
   deed_reads e s (deed.Stores path bytes) h = h
   deed_reads e s (deed.MakesDir path) h = h
   deed_reads e s (deed.Requests job) h = h
+  deed_reads e s (deed.Notes w op) h = h
   deed_reads e s (deed.AddsRules sets vars text) h = h
   deed_reads e s deed.ClearsRules h = h
   deed_reads e s (deed.AddsPort name) h = h

@@ -1,5 +1,5 @@
 -- A read waits only in a session, so a Tflush for its tag is answered by Rflush.
-use Rattle.std.proofs.Common.{◌≡◌, ◌≢◌, ℕ, Bool, true, false, not, cond, eqb, ◌&&◌, ◌||◌, List, [], ◌∷◌, ◌++◌, find}
+use Rattle.std.proofs.Common.{◌≡◌, ◌≢◌, ℕ, Bool, true, false, not, cond, eqb, ◌&&◌, ◌||◌, List, [], ◌∷◌, find}
 use Rattle.std.proofs.Common.{fold, nat_lt, min, codes, slice_index_or, Option, Some, None, option_map, All, refl, sym}
 use Rattle.std.proofs.Common.{ap, subst, ◌∙◌}
 use Rattle.std.specs.List.{filter, list_any}
@@ -53,6 +53,7 @@ use Rattle.core_parts.specs.Doing.{Doing}
 use Rattle.core_intents.specs.Intents.{reaction_at, server_at}
 use Rattle.core_intents.specs.Origins.{message_origin}
 use Rattle.acme_core.specs.Run.{step, run}
+use Rattle.core_steps.specs.Order.{as_asked}
 use Rattle.core_steps.specs.Stages.{asker_of, answer_tables, acted, said}
 use Rattle.core_parts.specs.States.{Present, State, present, next_entry, start_of}
 use Rattle.core_laws.specs.Laws.{FlushesAreAnswered}
@@ -309,8 +310,8 @@ any_session t conn tag (w ∷ ws) all h =
     ] refl h
 
 -- nothing is served, since no read that waits can be answered
-flush_says : (s : Present) (conn tag oldtag : ℕ) → served_all (next_entry s) (put_living [] s.scene.book s.scene.items)
-    ++ ports_served s.scene.ports ≡ [] → said s (kind.Asks conn tag)
+flush_says : (s : Present) (conn tag oldtag : ℕ) → as_asked s.tables (served_all (next_entry s)
+    (put_living [] s.scene.book s.scene.items) ∷ ports_served s.scene.ports ∷ []) ≡ [] → said s (kind.Asks conn tag)
     (message_doing s (flush_reaction oldtag) F) ≡ flushed conn tag ∷ []
 unfolding task_deeds task_refusal
 flush_says s conn tag oldtag none = ap (λ (xs : List Response). flushed conn tag ∷ xs) none
@@ -322,6 +323,6 @@ flushes_answered before conn tag oldtag waits =
     (in_run before) waits in
     subst (λ (b : Bool). said s (kind.Asks conn tag) (message_doing s (flush_or (not b) oldtag) F) ≡ flushed conn
     tag ∷ []) (sym there)
-    (flush_says s conn tag oldtag (silent_after before (next_entry s)))
+    (flush_says s conn tag oldtag (silent_after before (next_entry s) s.tables))
 
 pub ruleset answering = (flushes_answered)

@@ -26,7 +26,8 @@ use Rattle.core_parts.specs.declared.kind.Kind.{Kind}
 use Rattle.core_parts.specs.declared.kind.Kind.TheVariants as kind
 use Rattle.core_parts.specs.Kinds.{conn_of}
 use Rattle.core_steps.specs.Stages.{asker_of, if_said, answer_said, message_said, acted, with_fid, read_tables}
-use Rattle.core_steps.specs.Stages.{read_book, put_book, open_ports, said}
+use Rattle.core_steps.specs.Stages.{grown_tables, read_book, put_book, open_ports, served, said}
+use Rattle.core_steps.proofs.Orders.{all_asked}
 use Rattle.core_parts.specs.States.{Present, next_entry}
 use Rattle.plumb_ports.specs.PortsState.{PortsState}
 use Rattle.core_events.specs.PortAsking.{port_said}
@@ -143,15 +144,12 @@ module _ (L : ℕ → ℕ → Type 0) where
       let two : List Response = message_said (with_fid s k d) s.scene.book k d.answer in
       let asked : List Response = asked_said (read_tables s k d) (acted s d).ports (port_read_of k d.answer) in
       let three : List Response = deletions s.tables (deleted_by d.deeds) in
-      let four : List Response = served_all at (put_book s k d) in
-      let five : List Response = ports_served (open_ports s k d) in
-      All-append Tells (one ++ two ++ asked ++ three ++ four) five
-      (All-append Tells (one ++ two ++ asked ++ three) four
+      All-append Tells (one ++ two ++ asked ++ three) (served s k d)
       (All-append Tells (one ++ two ++ asked) three
       (All-append Tells (one ++ two) asked
       (All-append Tells one two (tell_clunked s.tables (conn_of k) d.effect waiting)
       (tell_message (with_fid s k d) s.scene.book k d.answer own))
       (tell_asked (read_tables s k d) (acted s d).ports k d.answer own))
       (tell_deletions s.tables (deleted_by d.deeds) waiting))
-      (tell_served at (put_book s k d) put))
-      (tell_ports (open_ports s k d) ports)
+      (all_asked Tells (grown_tables s k d) (served_all at (put_book s k d)) (ports_served (open_ports s k d))
+      (tell_served at (put_book s k d) put) (tell_ports (open_ports s k d) ports))

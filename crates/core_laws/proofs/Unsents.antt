@@ -129,7 +129,7 @@ one before (event.Hang c why) conn inside = sym (put_all (run before).unsent (sa
 one before (event.Took c) conn inside =
     let s : State = run before in
     let none : said (present s) (kind.Takes c) (doing_of (present s) (event.Took c)) ≡ [] = silent_after before
-    (s.entries + 1) in
+    (s.entries + 1) s.tables in
     subst (λ (xs : List Response). output_at before conn ++ bytes_to conn (replies_of xs) ≡ cond (eqb c conn)
     (bytes_at s.unsent c) [] ++ bytes_at (slice_set (put_replies s.unsent (replies_of xs)) c nothing_unsent) conn)
     (sym none) (taken_at s.unsent c conn inside)

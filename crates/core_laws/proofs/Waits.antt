@@ -1,7 +1,7 @@
 -- After each journal of enabled events the reads that wait in the sessions are those of the event files and of the
 -- ports, in order.
-use Rattle.std.proofs.Common.{◌≡◌, ◌⊎◌, inl, inr, ℕ, Bool, true, false, ◌||◌, List, ◌++◌, length, Option, refl, sym, ap}
-use Rattle.std.proofs.Common.{subst, ◌∙◌}
+use Rattle.std.proofs.Common.{◌≡◌, ◌⊎◌, inl, inr, ℕ, Bool, true, false, eqb, ◌&&◌, ◌||◌, List, ◌++◌, length, Option}
+use Rattle.std.proofs.Common.{refl, sym, ap, subst, ◌∙◌}
 use Rattle.std.specs.List.{list_any}
 use Rattle.std.proofs.lemmas.Bool.{or_parts, false_from_ne_true}
 use Rattle.fid_table.specs.declared.types.Fid.{Fid}
@@ -28,7 +28,9 @@ use Rattle.core_parts.specs.Kinds.{conn_of}
 use Rattle.core_parts.specs.States.{Present, next_entry}
 use Rattle.core_steps.specs.PortReads.{port_read_of, asked_said}
 use Rattle.core_steps.specs.Stages.{message_said, acted, with_fid, read_tables, grown_tables, read_book, put_book}
-use Rattle.core_steps.specs.Stages.{grown_book, open_ports, grown_ports, said, tables_after, book_after, ports_after}
+use Rattle.core_steps.specs.Stages.{grown_book, open_ports, grown_ports, served, said, tables_after, book_after}
+use Rattle.core_steps.specs.Stages.{ports_after}
+use Rattle.core_steps.proofs.Orders.{any_asked}
 use Rattle.core_closing.specs.Closing.{left_book}
 use Rattle.core_laws.specs.Waits.{told}
 use Rattle.core_laws.proofs.Books.{IsBook, book_written}
@@ -97,6 +99,10 @@ port_ends g c o a d s l x closes e f none later (inr is) = rw (sym e, is) (sym (
     also false true x = refl
     also false false x = refl
 
+or_moved : (a b c : Bool) → (a || (b || c)) ≡ ((a || b) || c)
+or_moved true b c = refl
+or_moved false b c = refl
+
 -- ---- what a step says
 
 abbrev own_said : Present → Kind → Doing → List Response
@@ -117,13 +123,15 @@ heard_said s k d c g =
     let four : List Response = deletions s.tables (deleted_by d.deeds) in
     let five : List Response = served_all (next_entry s) (put_book s k d) in
     let six : List Response = ports_served (open_ports s k d) in
-    heard_more (one ++ two ++ three ++ four ++ five) six c g
-    ∙ ap (λ (b : Bool). b || heard six c g)
-    (heard_more (one ++ two ++ three ++ four) five c g
-    ∙ ap (λ (b : Bool). b || heard five c g)
+    let before : List Response = one ++ two ++ three ++ four in
+    heard_more before (served s k d) c g
+    ∙ ap (λ (b : Bool). heard before c g || b) (any_asked (λ (x : Response). eqb c x.conn && eqb g x.message.tag)
+    (grown_tables s k d) five six)
+    ∙ or_moved (heard before c g) (heard five c g) (heard six c g)
+    ∙ ap (λ (b : Bool). (b || heard five c g) || heard six c g)
     (heard_more (one ++ two ++ three) four c g
     ∙ ap (λ (b : Bool). b || heard four c g) (heard_more (one ++ two) three c g
-    ∙ ap (λ (b : Bool). b || heard three c g) (heard_more one two c g))))
+    ∙ ap (λ (b : Bool). b || heard three c g) (heard_more one two c g)))
 
 -- where none of all is, the first isn't
 first_of_all : (c o a d s l : Bool) → (((((c || o) || a) || d) || s) || l) ≡ false → c ≡ false

@@ -3,3 +3,5 @@ pub mod Moved
 pub mod Joins
 pub mod Idling
 pub mod Applied
+pub mod Orders
+pub mod Rows

@@ -22,6 +22,7 @@ port_sound e s (deed.Snarfs text) h = h
 port_sound e s (deed.Stores path bytes) h = h
 port_sound e s (deed.MakesDir path) h = h
 port_sound e s (deed.Requests job) h = h
+port_sound e s (deed.Notes w op) h = h
 port_sound e s (deed.AddsRules sets vars text) h = h
 port_sound e s deed.ClearsRules h = h
 port_sound e s (deed.AddsPort name) h = sound_add s.ports name h

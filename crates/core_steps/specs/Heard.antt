@@ -1,5 +1,5 @@
 -- What is said in a step, stage by stage.
-use Rattle.std.specs.Prelude.{ℕ, ◌==◌, ◌&&◌, Bool, List, ◌++◌, length}
+use Rattle.std.specs.Prelude.{ℕ, ◌==◌, ◌&&◌, Bool, List, [], ◌∷◌, ◌++◌, length}
 use Rattle.fid_table.specs.Tables.{Tables}
 use Rattle.event_book.specs.BookState.{BookState}
 use Rattle.plumb_ports.specs.PortsState.{PortsState}
@@ -18,12 +18,13 @@ use Rattle.core_parts.specs.Kinds.{conn_of}
 use Rattle.core_parts.specs.declared.parts.Parts.{Parts}
 use Rattle.core_steps.specs.declared.files.Asks.{Asks}
 use Rattle.core_steps.specs.declared.saying.Heard.{Heard}
+use Rattle.core_steps.specs.Order.{as_asked}
 use Rattle.core_steps.specs.PortReads.{port_read_of, asked_said, asked_ports, asked_tables}
 use Rattle.core_steps.specs.Stages.{message_said, message_book, message_tables}
 
 -- all of it, in order
 abbrev pub all_of : Heard → List Response
-all_of h = h.clunked ++ h.answered ++ h.asked ++ h.deleted ++ h.served ++ h.delivered
+all_of h = h.clunked ++ h.answered ++ h.asked ++ h.deleted ++ h.served
 
 -- each part of it can be said
 pub record AreAllSaid (h : Heard) : Type 0 where
@@ -32,13 +33,11 @@ pub record AreAllSaid (h : Heard) : Type 0 where
   pub asked : AreSaid h.asked
   pub deleted : AreSaid h.deleted
   pub served : AreSaid h.served
-  pub delivered : AreSaid h.delivered
 
 -- whether nothing is said but the answer to the message, if it is
 abbrev pub is_answer_alone : Heard → Bool
 is_answer_alone h =
-    ((((length h.clunked == 0) && (length h.asked == 0)) && (length h.deleted == 0)) && (length h.served == 0))
-    && (length h.delivered == 0)
+    (((length h.clunked == 0) && (length h.asked == 0)) && (length h.deleted == 0)) && (length h.served == 0)
 
 -- ---- what an event finds once its task was done, and what it does to that
 
@@ -90,6 +89,13 @@ ports_opened f asks =
 abbrev pub ports_heard : Finds → Asks → PortsState
 ports_heard f asks = ports_after_serving (ports_opened f asks)
 
+-- what is said to waiting reads that can be answered, the oldest first over all files
+abbrev pub served_heard : Finds → Asks → List WindowItem → List ℕ → List Response
+served_heard f asks items deleted = as_asked (tables_heard f asks) (
+    served_all asks.at (book_put f asks items deleted)
+    ∷ ports_served (ports_opened f asks)
+    ∷ [])
+
 -- all that is said then
 abbrev pub heard_of : Finds → Asks → List WindowItem → List ℕ → Heard
 heard_of f asks items deleted = record {
@@ -97,6 +103,5 @@ heard_of f asks items deleted = record {
   answered = message_said (with_fid_in f asks) f.book asks.kind asks.answer;
   asked = asked_said (tables_answered f asks) f.ports (port_read_of asks.kind asks.answer);
   deleted = deletions f.tables deleted;
-  served = served_all asks.at (book_put f asks items deleted);
-  delivered = ports_served (ports_opened f asks);
+  served = served_heard f asks items deleted;
 }

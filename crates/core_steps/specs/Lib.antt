@@ -1,5 +1,6 @@
 pub mod Replies
 pub mod PortReads
+pub mod Order
 pub mod Stages
 pub mod Heard
 pub mod Ready

@@ -31,6 +31,7 @@ use Rattle.core_parts.specs.Kinds.{kind_of, conn_of}
 use Rattle.core_parts.specs.States.{Present, State, next_entry}
 use Rattle.core_closing.specs.Closing.{closed_book, left_ports, ended_tables, left_unsent}
 use Rattle.core_steps.specs.Replies.{replies_of}
+use Rattle.core_steps.specs.Order.{as_asked}
 use Rattle.core_steps.specs.PortReads.{port_read_of, asked_said, asked_ports, asked_tables}
 use Rattle.core_outputs.specs.Unsent.{put_replies}
 
@@ -143,17 +144,22 @@ open_ports s k d = joined_with (asked_ports (read_tables s k d) (acted s d).port
 abbrev pub grown_ports : Present → Kind → Doing → PortsState
 grown_ports s k d = ports_after_serving (open_ports s k d)
 
+-- what is said to the waiting reads that can be answered then, the oldest first over all files
+abbrev pub served : Present → Kind → Doing → List Response
+served s k d = as_asked (grown_tables s k d) (
+    served_all (next_entry s) (put_book s k d)
+    ∷ ports_served (open_ports s k d)
+    ∷ [])
+
 -- What is said: to the reads of a fid that is freed, to the message, to the reads of windows that are deleted, and
--- to the reads that can be answered then. No step makes items and delivers to ports as well, so these are the
--- oldest first over all files.
+-- to the reads that can be answered then.
 abbrev pub said : Present → Kind → Doing → List Response
 said s k d =
     clunked s.tables (conn_of k) d.effect
     ++ message_said (with_fid s k d) s.scene.book k d.answer
     ++ asked_said (read_tables s k d) (acted s d).ports (port_read_of k d.answer)
     ++ deletions s.tables (deleted_by d.deeds)
-    ++ served_all (next_entry s) (put_book s k d)
-    ++ ports_served (open_ports s k d)
+    ++ served s k d
 
 -- ---- the whole
 

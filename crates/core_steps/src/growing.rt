@@ -19,6 +19,7 @@ ghost use Rattle.core_steps.specs.Ready.{HasReady};
 
 use crate::acting::{Acted, act};
 use crate::files::{Asks, grow_files};
+use crate::ordering::as_asked;
 use crate::reading::{ask_port, port_read_of};
 use crate::saying::{Heard, Told, tell};
 use am_journal::Event;
@@ -117,14 +118,14 @@ fn hear(
     )?;
     let asked = ask_port(alloc, &mut parts.scene.ports, &mut parts.sessions, read)?;
     let delivered = grow_ports(alloc, &mut parts.scene.ports, events)?;
-    let served = grow_items(alloc, &mut parts.scene.book, items, deleted, at)?;
+    let given = grow_items(alloc, &mut parts.scene.book, items, deleted, at)?;
+    let served = as_asked(alloc, &parts.sessions, given, delivered)?;
     Ok(Heard {
         clunked,
         answered,
         asked,
         deleted: ended,
         served,
-        delivered,
     })
 }
 

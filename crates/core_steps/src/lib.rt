@@ -5,10 +5,13 @@ mod acting;
 mod applying;
 mod files;
 mod growing;
+mod laws;
+mod ordering;
 mod reading;
 mod saying;
 mod sessions;
 
 pub use applying::apply;
 pub use growing::grow;
+pub use laws::answers_are_in_order;
 pub use reading::PortRead;

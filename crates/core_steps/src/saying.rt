@@ -27,10 +27,8 @@ pub(crate) struct Heard {
     pub asked: Responses,
     /// To the reads that the deletion of windows ends.
     pub deleted: Responses,
-    /// To the waiting reads of event files that can be answered.
+    /// To the waiting reads that can be answered, of all files.
     pub served: Responses,
-    /// To the waiting reads of ports that can be answered.
-    pub delivered: Responses,
 }
 
 /// What is said, in order, and its bytes.
@@ -87,11 +85,10 @@ fn is_answer_alone(heard: &Heard) -> bool
         && heard.asked.is_empty()
         && heard.deleted.is_empty()
         && heard.served.is_empty()
-        && heard.delivered.is_empty()
 }
 
 // All that is said, in order.
-fn in_order(heard: Heard) -> Result<Responses, NoMemory>
+fn all_of(heard: Heard) -> Result<Responses, NoMemory>
     requires { AreAllSaid heard }
     ensures exact { IfOk result (λ said. said ≡ all_of heard) }
     ensures said { IfOk result AreSaid }
@@ -103,7 +100,6 @@ fn in_order(heard: Heard) -> Result<Responses, NoMemory>
         asked,
         deleted,
         served,
-        delivered,
     } = heard;
     if is_alone {
         return Ok(answered);
@@ -111,8 +107,7 @@ fn in_order(heard: Heard) -> Result<Responses, NoMemory>
     let said = joined(clunked, answered)?;
     let said = joined(said, asked)?;
     let said = joined(said, deleted)?;
-    let said = joined(said, served)?;
-    joined(said, delivered)
+    joined(said, served)
 }
 
 /// All that is said, in order, with its bytes, which are put to the unsent replies.
@@ -123,7 +118,7 @@ pub(crate) fn tell(alloc: Global, outputs: &mut Outputs, heard: Heard) -> Result
     ensures put { IfOk result (λ told. outputs.new.present ≡ put_replies outputs.old.present (replies_of told.said)) }
     ensures kept { outputs.new.kept ≡ outputs.old.kept }
 {
-    let said = in_order(heard)?;
+    let said = all_of(heard)?;
     let replies = spelled(alloc, said.as_slice())?;
     outputs.put_all(&replies)?;
     Ok(Told { said, replies })

@@ -54,7 +54,8 @@ use Rattle.core_parts.specs.States.{Present, next_entry}
 use Rattle.core_steps.specs.declared.reading.PortRead.{PortRead}
 use Rattle.core_steps.specs.PortReads.{port_read_of, if_port_said, asked_said, asked_ports}
 use Rattle.core_steps.specs.Stages.{if_said, answer_said, message_said, acted, with_fid, read_tables, grown_tables}
-use Rattle.core_steps.specs.Stages.{put_book, open_ports, said, ports_after}
+use Rattle.core_steps.specs.Stages.{put_book, open_ports, served, said, ports_after}
+use Rattle.core_steps.proofs.Orders.{told_second}
 use Rattle.core_closing.specs.Closing.{left_ports}
 use Rattle.event_laws.specs.Calls.{deed_calls, ask_unless, read_calls, join_calls, leave_calls, fid_calls, freed_calls}
 use Rattle.event_laws.specs.Calls.{cancel_calls, left_calls, calls_at, asked_of as asked_at}
@@ -111,6 +112,16 @@ heard_more s t cs xs more a silent = record {
       ∙ a.gives o;
 }
 
+-- other things are said, with the same data of each opening
+heard_same : (s t : PortsState) (cs : List Call) (xs old new : List Response) → Stage s cs (xs ++ old) t
+    → ((o : ℕ) → data_of o new ≡ data_of o old) → Stage s cs (xs ++ new) t
+heard_same s t cs xs old new a same = record {
+  can = a.can;
+  ports = a.ports;
+  gives = λ o. data_more o xs new ∙ ap (λ (l : List ℕ). data_of o xs ++ l) (same o) ∙ sym (data_more o xs old)
+      ∙ a.gives o;
+}
+
 -- calls that answer nothing
 calls_more : (s t u : PortsState) (cs ds : List Call) (xs : List Response) → Stage s cs xs t → Stage t ds [] u
     → Stage s (cs ++ ds) xs u
@@ -128,6 +139,7 @@ deeds_stage e s (deed.Snarfs text ∷ ds) = deeds_stage e (done e s (deed.Snarfs
 deeds_stage e s (deed.Stores path bytes ∷ ds) = deeds_stage e (done e s (deed.Stores path bytes)) ds
 deeds_stage e s (deed.MakesDir path ∷ ds) = deeds_stage e (done e s (deed.MakesDir path)) ds
 deeds_stage e s (deed.Requests job ∷ ds) = deeds_stage e (done e s (deed.Requests job)) ds
+deeds_stage e s (deed.Notes w op ∷ ds) = deeds_stage e (done e s (deed.Notes w op)) ds
 deeds_stage e s (deed.AddsRules sets vars text ∷ ds) = deeds_stage e (done e s (deed.AddsRules sets vars text)) ds
 deeds_stage e s (deed.ClearsRules ∷ ds) = deeds_stage e (done e s deed.ClearsRules) ds
 deeds_stage e s (deed.AddsPort name ∷ ds) =
@@ -349,12 +361,13 @@ entry_stage p k d =
     (join_stage y d.events) in
     let deletes : Stage s ((ds ++ rs) ++ js) (((a ++ b) ++ c) ++ f) z = heard_more s z ((ds ++ rs) ++ js)
     ((a ++ b) ++ c) f joins (no_deletions p.tables (deleted_by d.deeds)) in
-    let items : Stage s ((ds ++ rs) ++ js) ((((a ++ b) ++ c) ++ f) ++ g) z =
-    heard_more s z ((ds ++ rs) ++ js) (((a ++ b) ++ c) ++ f) g deletes
-    (no_served (length (put_book p k d).reads) (next_entry p) (put_book p k d))
+    let before : List Response = ((a ++ b) ++ c) ++ f in
+    let calls : List Call = ((ds ++ rs) ++ js) ++ ss in
+    let serves : Stage s calls (before ++ h) v = both s z v ((ds ++ rs) ++ js) ss before h deletes (serve_stage n z) in
+    let all : Stage s calls (before ++ served p k d) v =
+    heard_same s v calls before h (served p k d) serves
+    (λ o. told_second (data_of o) (data_more o) refl (grown_tables p k d) g h
+    (no_served (length (put_book p k d).reads) (next_entry p) (put_book p k d) o))
     in
-    let serves : Stage s (((ds ++ rs) ++ js) ++ ss) (((((a ++ b) ++ c) ++ f) ++ g) ++ h) v =
-    both s z v ((ds ++ rs) ++ js) ss ((((a ++ b) ++ c) ++ f) ++ g) h items (serve_stage n z)
-    in
-    calls_more s v (ports_after p k d) (((ds ++ rs) ++ js) ++ ss) (left_calls (grown_tables p k d) k d)
-    (((((a ++ b) ++ c) ++ f) ++ g) ++ h) serves (left_stage v (grown_tables p k d) k d)
+    calls_more s v (ports_after p k d) calls (left_calls (grown_tables p k d) k d) (before ++ served p k d) all
+    (left_stage v (grown_tables p k d) k d)

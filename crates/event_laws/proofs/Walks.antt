@@ -47,7 +47,9 @@ use Rattle.core_events.specs.PortServing.{ports_served}
 use Rattle.core_steps.specs.declared.reading.PortRead.{PortRead}
 use Rattle.core_steps.specs.PortReads.{port_read_of, if_port_said, asked_said}
 use Rattle.core_steps.specs.Stages.{asker_of, if_said, answer_said, answer_book, message_said, message_book, acted}
-use Rattle.core_steps.specs.Stages.{with_fid, read_tables, read_book, put_book, grown_book, open_ports, said}
+use Rattle.core_steps.specs.Stages.{with_fid, read_tables, grown_tables, read_book, put_book, grown_book, open_ports}
+use Rattle.core_steps.specs.Stages.{served, said}
+use Rattle.core_steps.proofs.Orders.{told_first}
 use Rattle.core_parts.specs.States.{Present, next_entry}
 use Rattle.event_laws.specs.Rreads.{Rread, rread_on, rread_in, rreads_of}
 use Rattle.event_laws.specs.Laws.{rread_to}
@@ -147,6 +149,18 @@ module _ (at : ℕ) (first : BookState) where
         ∙ sym (append-nil (rreads_of at heard))
         ∙ ap (λ (l : List Rread). rreads_of at heard ++ l) (sym none)
         ∙ sym (rreads_append at heard more);
+  }
+
+  -- other things are said, with the same Rreads
+  walk_same : (heard old new : List Response) (s : BookState) → W (heard ++ old) s
+      → rreads_of at new ≡ rreads_of at old → W (heard ++ new) s
+  walk_same heard old new s w same = record {
+    answers = w.answers;
+    makes = w.makes;
+    tells = w.tells
+        ∙ rreads_append at heard old
+        ∙ ap (λ (l : List Rread). rreads_of at heard ++ l) (sym same)
+        ∙ sym (rreads_append at heard new);
   }
 
   -- a call that gives nothing
@@ -314,10 +328,11 @@ grown p k d =
     (no_asked at (read_tables p k d) (acted p d).ports (port_read_of k d.answer)) in
     let deletes : Walks at first (((a ++ b) ++ q) ++ c) put = walk_silent at first ((a ++ b) ++ q) c put asks
     (no_deletions at p.tables ends) in
-    let served : Walks at first ((((a ++ b) ++ q) ++ c) ++ e) (book_served_all at put) = walk_most at first
-    (length put.reads) (((a ++ b) ++ q) ++ c) put deletes in
-    let ported : Walks at first (((((a ++ b) ++ q) ++ c) ++ e) ++ f) (book_served_all at put) =
-    walk_silent at first ((((a ++ b) ++ q) ++ c) ++ e) f (book_served_all at put) served
-    (no_ports at (open_ports p k d))
+    let before : List Response = ((a ++ b) ++ q) ++ c in
+    let taken : Walks at first (before ++ e) (book_served_all at put) = walk_most at first (length put.reads) before put
+    deletes in
+    let all : Walks at first (before ++ served p k d) (book_served_all at put) =
+    walk_same at first before e (served p k d) (book_served_all at put) taken
+    (told_first (rreads_of at) (rreads_append at) refl (grown_tables p k d) e f (no_ports at (open_ports p k d)))
     in
-    walk_all at first (((((a ++ b) ++ q) ++ c) ++ e) ++ f) (book_served_all at put) (ending ends items) ported
+    walk_all at first (before ++ served p k d) (book_served_all at put) (ending ends items) all

@@ -34,6 +34,7 @@ deed_calls (deed.Snarfs text ∷ ds) = deed_calls ds
 deed_calls (deed.Stores path bytes ∷ ds) = deed_calls ds
 deed_calls (deed.MakesDir path ∷ ds) = deed_calls ds
 deed_calls (deed.Requests job ∷ ds) = deed_calls ds
+deed_calls (deed.Notes w op ∷ ds) = deed_calls ds
 deed_calls (deed.AddsRules sets vars text ∷ ds) = deed_calls ds
 deed_calls (deed.ClearsRules ∷ ds) = deed_calls ds
 deed_calls (deed.AddsPort name ∷ ds) = Add name ∷ deed_calls ds
