@@ -52,7 +52,7 @@ LONGEST = 60000
 SECONDS, SLOW = 60, 2
 # how many refused lines are taken out of a transcript
 REPAIRS = 40
-FEATURES = ("wire-all", "files", "events", "addr", "actions", "edit", "plumb")
+FEATURES = ("wire-all", "files", "events", "addr", "actions", "edit,=windows-edit", "plumb")
 HEADING = lines_of_text.HEADING.encode()
 # how many reads of a connection may wait, in format 1 and in format 2
 WAITING, WAITING_2 = 64, 256
@@ -62,8 +62,8 @@ BYTES = [it.encode() for it in ("", "\0", "\n", "é", "\U0001f600", "\\", "'", "
 BYTES += [b"\xff", b"\xc3", b"\xe2\x82"]
 # pieces of the grammars of all that is written, one after another
 WORDS = """a ab . * + ? ( ) [ ] [^a] ^ $ | , ; # #0 0 1 - x/a/ ,x/./ y/b/ g/a/ v/a/ s/a/b/ s2/(a)/\\1&/g a/x/ i/x/ c/x/
-d p = =# m0 t$ |sort <date >wc Edit Undo Redo Cut Snarf Paste Del Delete Get Put New Look /d/x /d/ x:2 .. /
-event body p"""
+d p = =# m0 t$ X/a/ X/./ Y/b/ B D e r w |sort <date >wc Edit Undo Redo Cut Snarf Paste Del Delete Get Put New Look /d/x
+/d/ x:2 .. / event body p"""
 LINES = """{|}|Edit ,d|del|delete|name /d/x|clean|dirty|mark|nomark|get|put|addr=dot|dot=addr|limit=addr|cleartag|MX0 3
 |ML0 1|Ml0 3|plumb to p|type is text|data matches 'a(.*)'|arg isfile $0|data set $1|attr add a=1|plumb client it
 |plumb start it|a=1 click=0|v='x y'"""
@@ -777,7 +777,7 @@ def main(given: List[str]) -> int:
     parser.add_argument("--seeds", default="0:200")
     parser.add_argument("--seconds", type=float)
     parser.add_argument("--from", type=int, default=0, dest="first")
-    parser.add_argument("--edit", choices=["basic", "full"], default="basic")
+    parser.add_argument("--edit", choices=["basic", "full"], default="full")
     parser.add_argument("--save", default=f"{TOP}/differences")
     parser.add_argument("--page", action="store_true")
     parser.add_argument("--keep", action="store_true", help="puts what is answered as nothing was into the corpus")

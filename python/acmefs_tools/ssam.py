@@ -67,8 +67,9 @@ def is_refused(text: str, dot: Tuple[int, int], command: str, made: Edited) -> b
 
 
 def is_command(lines: List[str]) -> bool:
-    """Whether lines are one command, by the grammar alone."""
-    return edited("", (0, 0), "\n".join(lines)).fault() != BAD
+    """Whether lines are one command over a text, by the grammar alone: in a block, where no commands over windows and
+    files are."""
+    return edited("", (0, 0), "\n".join(["{", *lines, "}"])).fault() != BAD
 
 
 def commands(script: str) -> Iterator[str]:
