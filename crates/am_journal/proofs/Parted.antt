@@ -7,8 +7,8 @@ use Rattle.std.proofs.lemmas.List.{append-nil, take_more, length-map}
 use Rattle.std.proofs.lemmas.List.Folds.{concat-append}
 use Rattle.std.proofs.lemmas.Grind.{flat_map-append, get_or_head, get_or_tail}
 use Rattle.std.proofs.Math.Seq.{take-length}
-use Rattle.am_text.specs.Requests.{request_lines}
 use Rattle.am_text.specs.declared.job.Job.{Job}
+use Rattle.am_text.specs.declared.job.JobLife.{JobLife}
 use Rattle.am_journal.specs.declared.event.Format.{Format}
 use Rattle.am_journal.specs.declared.parts.Section.{Section}
 use Rattle.am_journal.specs.declared.parts.Section.TheVariants as section
@@ -16,15 +16,17 @@ use Rattle.am_journal.specs.declared.view.ConnView.{ConnView}
 use Rattle.am_journal.specs.declared.view.WindowView.{WindowView}
 use Rattle.am_journal.specs.declared.view.ItemView.{ItemView}
 use Rattle.am_journal.specs.declared.view.View.{View}
-use Rattle.am_journal.specs.Report.{title, count_line, conn_line, window_lines, item_line, requests_from}
+use Rattle.am_journal.specs.Report.{title, count_line, conn_line, window_lines, item_line}
+use Rattle.am_journal.specs.Report.{request_told, requests_from}
 use Rattle.am_journal.specs.Report.{conns_part, windows_part, items_part, requests_part}
 use Rattle.am_journal.specs.Sections.{sections, first_line, request_parts, section_parts, AreReports}
 
 -- ---- how many they are
 
-pub requests_counted : (k : ℕ) (js : List Job) → length (request_parts k js) ≡ length js
-requests_counted k [] = refl
-requests_counted k (j ∷ js) = omega (arith, requests_counted (k + 1) js)
+pub requests_counted : (format : Format) (ls : List JobLife) (k : ℕ) (js : List Job)
+    → length (request_parts format ls k js) ≡ length js
+requests_counted format ls k [] = refl
+requests_counted format ls k (j ∷ js) = omega (arith, requests_counted format ls (k + 1) js)
 
 pub ruleset counts = (length-map, requests_counted)
 
@@ -48,19 +50,23 @@ pub item_at : (vs : List ItemView) (k : ℕ) (v : ItemView) → k < length vs
     → get_or (map item_line vs) k [] ≡ item_line (get_or vs k v)
 item_at vs k v h = get_or-map item_line vs k v h
 
-requests_at : (n : ℕ) (js : List Job) (k : ℕ) (j : Job) → k < length js
-    → get_or (request_parts n js) k [] ≡ request_lines (n + k) (get_or js k j)
-requests_at n [] k j h = absurd (omega (arith, h))
-requests_at n (x ∷ js) zero j h = let same : n ≡ n + 0 = omega arith in ap (λ (m : ℕ). request_lines m x) same
-requests_at n (x ∷ js) (suc k) j h =
+requests_at : (format : Format) (ls : List JobLife) (n : ℕ) (js : List Job) (k : ℕ) (j : Job) → k < length js
+    → get_or (request_parts format ls n js) k [] ≡ request_told format ls (n + k) (get_or js k j)
+requests_at format ls n [] k j h = absurd (omega (arith, h))
+requests_at format ls n (x ∷ js) zero j h =
+    let same : n ≡ n + 0 = omega arith in ap (λ (m : ℕ). request_told format ls m x) same
+requests_at format ls n (x ∷ js) (suc k) j h =
     let next : n + 1 + k ≡ n + suc k = omega arith in
-    requests_at (n + 1) js k j (omega (arith, h)) ∙ ap (λ (m : ℕ). request_lines m (get_or js k j)) next
+    requests_at format ls (n + 1) js k j (omega (arith, h))
+    ∙ ap (λ (m : ℕ). request_told format ls m (get_or js k j)) next
 
-pub request_at : (js : List Job) (k : ℕ) (j : Job) → k < length js
-    → get_or (request_parts 1 js) k [] ≡ request_lines (k + 1) (get_or js k j)
-request_at js k j h =
-    let same : 1 + k ≡ k + 1 = omega arith in
-    requests_at 1 js k j h ∙ ap (λ (m : ℕ). request_lines m (get_or js k j)) same
+pub request_at : (format : Format) (ls : List JobLife) (js : List Job) (k : ℕ) (j : Job) → k < length js
+    → get_or (request_parts format ls 0 js) k [] ≡ request_told format ls k (get_or js k j)
+request_at format ls js k j h =
+    let same : 0 + k ≡ k = omega arith in
+    requests_at format ls 0 js k j h ∙ ap (λ (m : ℕ). request_told format ls m (get_or js k j)) same
+
+pub ruleset requested = (request_at, append_assoc)
 
 pub ruleset parts = (get_or_head, get_or_tail)
 
@@ -70,9 +76,11 @@ concat-map : {A : Type 0} (f : A → List ℕ) (xs : List A) → concat (map f x
 concat-map f [] = refl
 concat-map f (x ∷ xs) = ap (λ (l : List ℕ). f x ++ l) (concat-map f xs)
 
-concat-requests : (k : ℕ) (js : List Job) → concat (request_parts k js) ≡ requests_from k js
-concat-requests k [] = refl
-concat-requests k (j ∷ js) = ap (λ (l : List ℕ). request_lines k j ++ l) (concat-requests (k + 1) js)
+concat-requests : (format : Format) (ls : List JobLife) (k : ℕ) (js : List Job)
+    → concat (request_parts format ls k js) ≡ requests_from format ls k js
+concat-requests format ls k [] = refl
+concat-requests format ls k (j ∷ js) =
+    ap (λ (l : List ℕ). request_told format ls k j ++ l) (concat-requests format ls (k + 1) js)
 
 -- a section, and what comes behind it
 section-then : (first : List ℕ) (members rest : List (List ℕ)) (told after : List ℕ) → concat members ≡ told
@@ -93,8 +101,8 @@ pub are_reports : AreReports
 unfolding sections section_parts conns_part windows_part items_part requests_part
 are_reports v =
     let q : concat (section_parts v section.Requests ++ []) ≡ requests_part v =
-    section-then (first_line v section.Requests) (request_parts 1 v.jobs) [] (requests_from 1 v.jobs) []
-    (concat-requests 1 v.jobs) refl ∙ append-nil (requests_part v) in
+    section-then (first_line v section.Requests) (request_parts v.format v.lives 0 v.jobs) []
+    (requests_from v.format v.lives 0 v.jobs) [] (concat-requests v.format v.lives 0 v.jobs) refl ∙ append-nil (requests_part v) in
     let i : concat (section_parts v section.Items ++ (section_parts v section.Requests ++ [])) ≡ items_part v
     ++ requests_part v =
     section-then (first_line v section.Items) (map item_line v.items) (section_parts v section.Requests ++ [])

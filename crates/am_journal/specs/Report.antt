@@ -1,5 +1,6 @@
 -- The report on the editor.
 use Rattle.std.specs.Prelude.{ℕ, ◌+◌, Bool, true, false, List, [], ◌∷◌, ◌++◌, length, Option, Some, None, codes}
+use Rattle.std.specs.Prelude.{get_or}
 use Rattle.std.specs.List.{flat_map}
 use Rattle.am_text.specs.Ascii.{newline, space}
 use Rattle.am_text.specs.Fields.{around, text_end}
@@ -8,6 +9,8 @@ use Rattle.std.specs.Fmt.{decimal}
 use Rattle.am_text.specs.Utf8.{decode}
 use Rattle.am_text.specs.declared.range.Range.{Range}
 use Rattle.am_text.specs.declared.job.Job.{Job}
+use Rattle.am_text.specs.declared.job.JobLife.{JobLife}
+use Rattle.am_text.specs.declared.job.JobLife.TheVariants.{Waiting, Taken, Answered, Lost}
 use Rattle.win_events.specs.declared.item.Life.{Life}
 use Rattle.win_events.specs.declared.item.Life.TheVariants as life
 use Rattle.am_journal.specs.declared.ending.Ending.{Ending}
@@ -66,12 +69,19 @@ window_lines w = window_line w ++ body_line w
 
 -- ---- items
 
--- `taken OPENING ENTRY`, and the like
+-- `taken OPENING ENTRY`: what an opening read, and at which entry
+unfoldable pub taken_words : ℕ → ℕ → List ℕ
+taken_words opening at = around (codes "taken ") opening (space ∷ []) ++ decimal at
+
+-- `NAME OPENING ENTRY END`: what an opening read, and at which entry that ended
+unfoldable pub spent_words : List ℕ → ℕ → ℕ → ℕ → List ℕ
+spent_words name opening at end = around name opening (space ∷ []) ++ (around [] at (space ∷ []) ++ decimal end)
+
+-- the life of an item
 unfoldable pub life_words : Life → List ℕ
 life_words life.Pending = codes "pending"
-life_words (life.Taken opening at) = around (codes "taken ") opening (space ∷ []) ++ decimal at
-life_words (life.Back opening at back) = around (codes "back ") opening (space ∷ [])
-    ++ (around [] at (space ∷ []) ++ decimal back)
+life_words (life.Taken opening at) = taken_words opening at
+life_words (life.Back opening at back) = spent_words (codes "back ") opening at back
 life_words (life.Dropped at) = codes "dropped " ++ decimal at
 
 -- `item W K LIFE :SPELLING`
@@ -81,10 +91,35 @@ item_line v = around (codes "item ") v.window (space ∷ []) ++ (around [] v.num
 
 -- ---- requests
 
--- those from number k on
-abbrev pub requests_from : ℕ → List Job → List ℕ
-requests_from k [] = []
-requests_from k (job ∷ jobs) = request_lines k job ++ requests_from (k + 1) jobs
+-- whether it was done or failed, with a blank before it
+abbrev pub good_word : Bool → List ℕ
+good_word false = codes " fail"
+good_word true = codes " ok"
+
+-- the life of a request: it waits, an opening took it, and answered it or closed before
+unfoldable pub state_words : JobLife → List ℕ
+state_words Waiting = codes "waiting"
+state_words (Taken opening at) = taken_words opening at
+state_words (Answered opening at answer good) = spent_words (codes "answered ") opening at answer ++ good_word good
+state_words (Lost opening at close) = spent_words (codes "lost ") opening at close
+
+-- `state LIFE`, which format 2 tells
+unfoldable pub state_line : Format → JobLife → List ℕ
+state_line One life = []
+state_line Two life = codes "state " ++ (state_words life ++ newline ∷ [])
+
+-- the life at this place: one that has none waits
+abbrev pub life_at : List JobLife → ℕ → JobLife
+life_at lives k = get_or lives k Waiting
+
+-- the lines of the request at this place: its number is one more
+unfoldable pub request_told : Format → List JobLife → ℕ → Job → List ℕ
+request_told format lives k job = request_lines (k + 1) job ++ state_line format (life_at lives k)
+
+-- the lines of those from this place on
+abbrev pub requests_from : Format → List JobLife → ℕ → List Job → List ℕ
+requests_from format lives k [] = []
+requests_from format lives k (job ∷ jobs) = request_told format lives k job ++ requests_from format lives (k + 1) jobs
 
 -- ---- the report
 
@@ -106,7 +141,7 @@ items_part v = count_line (codes "items ") (length v.items) ++ flat_map item_lin
 
 -- the requests
 unfoldable pub requests_part : View → List ℕ
-requests_part v = count_line (codes "requests ") (length v.jobs) ++ requests_from 1 v.jobs
+requests_part v = count_line (codes "requests ") (length v.jobs) ++ requests_from v.format v.lives 0 v.jobs
 
 -- the report
 abbrev pub report_text : View → List ℕ

@@ -18,7 +18,7 @@ mod reporting;
 mod spots;
 mod view;
 
-pub use am_text::{Bytes, Items, Job, JobKind, Jobs, NoMemory, Range, Runes};
+pub use am_text::{Bytes, Items, Job, JobKind, JobLife, JobLives, Jobs, NoMemory, Range, Runes};
 pub use ending::{Bad, Ending};
 pub use event::{Event, Events, Format, Journal, Refused, Side, Spot, Why};
 pub use headings::{heading, split_heading};

@@ -2,13 +2,13 @@
 
 ghost use Rattle.std.specs.Prelude.{◌≡◌, ◌++◌, ◌<◌, ◌+◌, [], IfOk, OnOk, length, get_or, map};
 ghost use Rattle.std.specs.List.{concat};
-ghost use Rattle.am_journal.specs.Report.{conn_line, window_lines, item_line, report_text};
+ghost use Rattle.am_journal.specs.Report.{conn_line, window_lines, item_line, life_at, report_text};
 ghost use Rattle.am_journal.specs.Sections.{sections, first_line, request_parts, member_parts, section_parts};
 
 use crate::event::Format;
-use crate::reporting::{put_conn, put_item, put_title, put_window};
+use crate::reporting::{put_conn, put_item, put_state_line, put_title, put_window};
 use crate::view::{ConnView, ItemView, View, WindowView};
-use am_text::{Bytes, Items, Job, NoMemory, put_around, put_request_lines};
+use am_text::{Bytes, Items, Job, JobLife, NoMemory, put_around, put_request_lines};
 use std::alloc::Global;
 
 /// A section of a report.
@@ -98,11 +98,25 @@ fn put_item_at(alloc: Global, out: &mut Bytes, views: &[ItemView], k: usize) -> 
     put_item(alloc, out, &views[k])
 }
 
-fn put_request_at(alloc: Global, out: &mut Bytes, jobs: &[Job], k: usize) -> Result<(), NoMemory>
-    requires { k < length jobs.now }
-    ensures { OnOk result (out.new ≡ out.old ++ get_or (request_parts 1 jobs.now) k []) }
+fn life_at(lives: &[JobLife], k: usize) -> JobLife
+    ensures { result ≡ life_at lives.now k }
 {
-    put_request_lines(alloc, out, k as u64 + 1, &jobs[k])
+    match lives.get(k) {
+        None => JobLife::Waiting,
+        Some(life) => *life,
+    }
+}
+
+#[tactic(auto, using(crate::proofs::Parted::requested), unfolding(crate::specs::Report::request_told))]
+fn put_request_at(alloc: Global, out: &mut Bytes, view: &View, k: usize) -> Result<(), NoMemory>
+    requires { k < length view.now.jobs }
+    ensures { OnOk result (out.new ≡ out.old
+        ++ get_or (request_parts view.now.format view.now.lives 0 view.now.jobs) k []) }
+{
+    let jobs = view.jobs.as_slice();
+    put_request_lines(alloc, out, k as u64 + 1, &jobs[k])?;
+    put_state_line(alloc, out, view.format, life_at(view.lives.as_slice(), k))?;
+    Ok(())
 }
 
 #[tactic(auto, using(crate::proofs::Parted::counts))]
@@ -121,7 +135,7 @@ fn put_member(
         Section::Connections => put_conn_at(alloc, out, view.format, view.conns.as_slice(), k),
         Section::Windows => put_window_at(alloc, out, view.windows.as_slice(), k),
         Section::Items => put_item_at(alloc, out, view.items.as_slice(), k),
-        Section::Requests => put_request_at(alloc, out, view.jobs.as_slice(), k),
+        Section::Requests => put_request_at(alloc, out, view, k),
     }
 }
 

@@ -4,12 +4,15 @@ ghost use Rattle.std.specs.Prelude.{◌≡◌, ◌++◌, OnOk};
 ghost use Rattle.std.specs.Fmt.{decimal};
 ghost use Rattle.am_journal.specs.Report.{conn_state, user_end, conn_line, modified_word, dot_words, window_line};
 ghost use Rattle.am_journal.specs.Report.{body_line, window_lines, title, life_words, item_line};
+ghost use Rattle.am_journal.specs.Report.{taken_words, spent_words, good_word, state_words, state_line};
 
 use crate::causes::{put_cause, put_two};
 use crate::ending::Ending;
 use crate::event::Format;
 use crate::view::{ConnView, ItemView, WindowView};
-use am_text::{Bytes, Items, NoMemory, Range, decimal, decode_whole, put_around, put_text_end};
+use am_text::{
+    Bytes, Items, JobLife, NoMemory, Range, decimal, decode_whole, put_around, put_text_end,
+};
 use std::alloc::Global;
 use win_events::Life;
 
@@ -115,21 +118,38 @@ fn put_last(alloc: Global, out: &mut Bytes, before: &[u8], n: u64) -> Result<(),
     Ok(())
 }
 
+#[tactic(auto, using(crate::proofs::Joined::joined), unfolding(crate::specs::Report::taken_words))]
+fn put_taken(alloc: Global, out: &mut Bytes, opening: u32, at: u64) -> Result<(), NoMemory>
+    ensures { OnOk result (out.new ≡ out.old ++ taken_words opening at) }
+{
+    put_around(alloc, out, b"taken ", u64::from(opening), b" ")?;
+    put_last(alloc, out, b"", at)
+}
+
+#[tactic(auto, using(crate::proofs::Joined::joined), unfolding(crate::specs::Report::spent_words))]
+fn put_spent(
+    alloc: Global,
+    out: &mut Bytes,
+    name: &[u8],
+    opening: u32,
+    at: u64,
+    end: u64,
+) -> Result<(), NoMemory>
+    ensures { OnOk result (out.new ≡ out.old ++ spent_words name.now opening at end) }
+{
+    put_around(alloc, out, name, u64::from(opening), b" ")?;
+    put_around(alloc, out, b"", at, b" ")?;
+    put_last(alloc, out, b"", end)
+}
+
 #[tactic(auto, using(crate::proofs::Joined::joined), unfolding(crate::specs::Report::life_words))]
 fn put_life(alloc: Global, out: &mut Bytes, life: Life) -> Result<(), NoMemory>
     ensures { OnOk result (out.new ≡ out.old ++ life_words life) }
 {
     match life {
         Life::Pending => out.append(b"pending"),
-        Life::Taken { opening, at } => {
-            put_around(alloc, out, b"taken ", u64::from(opening), b" ")?;
-            put_last(alloc, out, b"", at)
-        }
-        Life::Back { opening, at, back } => {
-            put_around(alloc, out, b"back ", u64::from(opening), b" ")?;
-            put_around(alloc, out, b"", at, b" ")?;
-            put_last(alloc, out, b"", back)
-        }
+        Life::Taken { opening, at } => put_taken(alloc, out, opening, at),
+        Life::Back { opening, at, back } => put_spent(alloc, out, b"back ", opening, at, back),
         Life::Dropped { at } => put_last(alloc, out, b"dropped ", at),
     }
 }
@@ -145,4 +165,49 @@ pub(crate) fn put_item(alloc: Global, out: &mut Bytes, view: &ItemView) -> Resul
     let spelling = decode_whole(alloc, view.spelled.as_slice())?;
     put_text_end(alloc, out, spelling.as_slice())?;
     Ok(())
+}
+
+fn good_word(good: bool) -> &'static [u8]
+    ensures { result.now ≡ good_word good }
+{
+    if good { b" ok" } else { b" fail" }
+}
+
+#[tactic(auto, using(crate::proofs::Joined::joined), unfolding(crate::specs::Report::state_words))]
+fn put_job_life(alloc: Global, out: &mut Bytes, life: JobLife) -> Result<(), NoMemory>
+    ensures { OnOk result (out.new ≡ out.old ++ state_words life) }
+{
+    match life {
+        JobLife::Waiting => out.append(b"waiting"),
+        JobLife::Taken { opening, at } => put_taken(alloc, out, opening, at),
+        JobLife::Answered {
+            opening,
+            at,
+            answer,
+            good,
+        } => {
+            put_spent(alloc, out, b"answered ", opening, at, answer)?;
+            out.append(good_word(good))
+        }
+        JobLife::Lost { opening, at, close } => put_spent(alloc, out, b"lost ", opening, at, close),
+    }
+}
+
+#[tactic(auto, using(crate::proofs::Joined::joined), unfolding(crate::specs::Report::state_line))]
+pub(crate) fn put_state_line(
+    alloc: Global,
+    out: &mut Bytes,
+    format: Format,
+    life: JobLife,
+) -> Result<(), NoMemory>
+    ensures { OnOk result (out.new ≡ out.old ++ state_line format life) }
+{
+    match format {
+        Format::One => Ok(()),
+        Format::Two => {
+            out.append(b"state ")?;
+            put_job_life(alloc, out, life)?;
+            out.append(b"\n")
+        }
+    }
 }

@@ -2,7 +2,7 @@
 
 use crate::ending::Ending;
 use crate::event::Format;
-use am_text::{Bytes, Items, Jobs, Range, Runes};
+use am_text::{Bytes, Items, JobLives, Jobs, Range, Runes};
 use win_events::Life;
 
 /// A connection that was dialled, why it ended, if it did, and its user: the uname of its last Tattach that was answered
@@ -42,7 +42,8 @@ pub struct ItemView {
 /// Items, by window and number.
 pub type ItemViews = Items<ItemView>;
 
-/// The editor after so many entries of its journal, which has a format. Its requests are numbered from 1.
+/// The editor after so many entries of its journal, which has a format. Its requests are numbered from 1, and each has
+/// a life by its number: one that has none in the list waits.
 #[derive(Drop)]
 pub struct View {
     pub format: Format,
@@ -51,4 +52,5 @@ pub struct View {
     pub windows: WindowViews,
     pub items: ItemViews,
     pub jobs: Jobs,
+    pub lives: JobLives,
 }
