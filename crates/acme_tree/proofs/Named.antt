@@ -1,5 +1,5 @@
 -- The entry of a name.
-use Rattle.std.proofs.Common.{◌≡◌, ℕ, ◌+◌, ◌<◌, ◌^◌, suc, Bool, true, false, cond, eqb, ltb, List, [], ◌∷◌, length}
+use Rattle.std.proofs.Common.{◌≡◌, ℕ, ◌+◌, ◌<◌, ◌^◌, suc, Bool, true, false, cond, eqb, ltb, List, [], ◌∷◌, ◌++◌, length}
 use Rattle.std.proofs.Common.{take, get_or, Option, Some, None, codes, refl, sym, ap, ◌∙◌, arith, inl, inr}
 use Rattle.std.specs.Prelude.{map, find, position, All}
 use Rattle.std.specs.List.{position_or_len}
@@ -14,9 +14,9 @@ use Rattle.std.proofs.lemmas.List.Elements.{All-head, All-tail}
 use Rattle.std.proofs.lemmas.List.Sums.{position_or_len_is}
 use Rattle.std.proofs.lemmas.Slice.Eq.{bytes_eq-Decides}
 use Rattle.acme_tree.specs.declared.node.Node.{Node}
-use Rattle.acme_tree.specs.declared.node.Node.TheVariants.{Root, Cons, ConsCtl, Index, Label, NewDir, Window, Port}
+use Rattle.acme_tree.specs.declared.node.Node.TheVariants.{Root, Window, Port}
 use Rattle.acme_tree.specs.declared.node.World.{World}
-use Rattle.acme_tree.specs.Trees.{name_of, ports_from, root_entries, plumber_entries, entries}
+use Rattle.acme_tree.specs.Trees.{name_of, ports_from, root_front, root_entries, plumber_entries, entries}
 use Rattle.acme_tree.specs.Walks.{named_in, entry_named}
 
 -- ---- windows
@@ -143,29 +143,61 @@ ports_named ports name k (port ∷ names) same =
 
 -- ---- the entries of the two roots
 
+-- the first that passes, of one list and then of another
+abbrev or_later : {A : Type 0} → Option A → Option A → Option A
+or_later None later = later
+or_later (Some a) later = Some a
+
+find-append : {A : Type 0} (p : A → Bool) (xs ys : List A) → find p (xs ++ ys) ≡ or_later (find p xs) (find p ys)
+find-append p [] ys = refl
+find-append p (x ∷ xs) ys =
+    elim (p x) as (λ b. cond b (Some x) (find p (xs ++ ys)) ≡ or_later (cond b (Some x) (find p xs)) (find p ys)) [
+      | true ↦ refl
+      | false ↦ find-append p xs ys
+    ]
+
+-- the front of the root has no ports
+front_named : (watched : Bool) (ports : List (List ℕ)) (name : List ℕ)
+    → named_in [] (root_front watched) name ≡ named_in ports (root_front watched) name
+front_named true ports name = refl
+front_named false ports name = refl
+
 -- no entry of the root is a port
 root_named : (world : World) (ports : List (List ℕ)) (name : List ℕ)
     → named_in [] (root_entries world) name ≡ named_in ports (root_entries world) name
 root_named world ports name =
     let none = find-map (λ node. bytes_eq name (name_of [] node)) Window world.windows in
     let some = find-map (λ node. bytes_eq name (name_of ports node)) Window world.windows in
-    ap (λ (rest : Option Node). cond (bytes_eq name (codes "cons")) (Some Cons)
-    (cond (bytes_eq name (codes "consctl")) (Some ConsCtl) (cond (bytes_eq name (codes "index")) (Some Index)
-    (cond (bytes_eq name (codes "label")) (Some Label) (cond (bytes_eq name (codes "new")) (Some NewDir) rest)))))
-    (none ∙ sym some)
+    find-append (λ node. bytes_eq name (name_of [] node)) (root_front world.watched) (map Window world.windows)
+    ∙ ap (λ (o : Option Node). or_later o (named_in [] (map Window world.windows) name))
+    (front_named world.watched ports name)
+    ∙ ap (or_later (named_in ports (root_front world.watched) name)) (none ∙ sym some)
+    ∙ sym (find-append (λ node. bytes_eq name (name_of ports node)) (root_front world.watched)
+    (map Window world.windows))
 
 pub in_root : (world : World) (ports : List (List ℕ)) (name : List ℕ) (found : Option Node)
     → found ≡ named_in [] (root_entries world) name → found ≡ entry_named world ports Root name
 unfolding entry_named entries
 in_root world ports name found is = is ∙ root_named world ports name
 
+-- a file of the front
+pub in_root_front : (world : World) (name : List ℕ) (node : Node)
+    → Some node ≡ named_in [] (root_front world.watched) name → Some node ≡ named_in [] (root_entries world) name
+in_root_front world name node is =
+    ap (λ (o : Option Node). or_later o (named_in [] (map Window world.windows) name)) is
+    ∙ sym (find-append (λ n. bytes_eq name (name_of [] n)) (root_front world.watched) (map Window world.windows))
+
+-- a window, where no file of the front has the name
 pub in_root_rest : (world : World) (name : List ℕ) (found : Option Node)
-    → bytes_eq name (codes "cons") ≡ false → bytes_eq name (codes "consctl") ≡ false → bytes_eq name
-    (codes "index") ≡ false → bytes_eq name (codes "label") ≡ false → bytes_eq name (codes "new") ≡ false
+    → None ≡ named_in [] (root_front world.watched) name
     → found ≡ option_map Window (find (λ w. bytes_eq name (decimal w)) world.windows)
     → found ≡ named_in [] (root_entries world) name
-in_root_rest world name found a b c d e is = rw (a, b, c, d, e) (is
-    ∙ sym (find-map (λ node. bytes_eq name (name_of [] node)) Window world.windows))
+in_root_rest world name found none is =
+    is ∙ sym (find-map (λ node. bytes_eq name (name_of [] node)) Window world.windows)
+    ∙ ap (λ (o : Option Node). or_later o (named_in [] (map Window world.windows) name)) none
+    ∙ sym (find-append (λ n. bytes_eq name (name_of [] n)) (root_front world.watched) (map Window world.windows))
+
+pub ruleset rooted = (in_root_front, in_root_rest)
 
 -- a port that has a number keeps its name
 numbered_same : (ports : List (List ℕ)) (i : ℕ) → i < length (take (2 ^ 32) ports)

@@ -46,6 +46,14 @@ pub index_named : IsName (codes "index")
 unfolding is_text is_utf8 chars encode_utf8
 index_named = record { text = refl; len = omega arith }
 
+pub jobs_named : IsName (codes "jobs")
+unfolding is_text is_utf8 chars encode_utf8
+jobs_named = record { text = refl; len = omega arith }
+
+pub log_named : IsName (codes "log")
+unfolding is_text is_utf8 chars encode_utf8
+log_named = record { text = refl; len = omega arith }
+
 pub label_named : IsName (codes "label")
 unfolding is_text is_utf8 chars encode_utf8
 label_named = record { text = refl; len = omega arith }
@@ -100,7 +108,9 @@ pub ruleset spelled = (
   cons_named,
   consctl_named,
   index_named,
+  jobs_named,
   label_named,
+  log_named,
   new_named,
   plumb_named,
   send_named,

@@ -1,6 +1,6 @@
 -- The nodes of the trees: what each is, its path, mode and name, and what a directory lists.
 use Rattle.std.specs.Prelude.{ℕ, ◌<◌, ◌+◌, ◌*◌, ◌^◌, Bool, true, false, ◌||◌, ◌==◌, nat_le, nat_lt, List, [], ◌∷◌}
-use Rattle.std.specs.Prelude.{length, map, take, codes, slice_index_or}
+use Rattle.std.specs.Prelude.{◌++◌, length, map, take, codes, slice_index_or}
 use Rattle.std.specs.Fmt.{decimal}
 use Rattle.std.specs.List.{list_any}
 use Rattle.ninep_types.specs.declared.message.Qid.{Qid}
@@ -8,8 +8,8 @@ use Rattle.ninep_frame.specs.declared.stat.Stat.{Stat}
 use Rattle.acme_tree.specs.Limits.{max_windows, never_given, window_paths, first_port_path}
 use Rattle.acme_tree.specs.Modes.{reads, writes, reads_and_writes, append_mode, dir_mode, append_kind, dir_kind}
 use Rattle.acme_tree.specs.declared.node.Node.{Node}
-use Rattle.acme_tree.specs.declared.node.Node.TheVariants.{Root, Cons, ConsCtl, Index, Label, NewDir, Window, File}
-use Rattle.acme_tree.specs.declared.node.Node.TheVariants.{PlumbRoot, Send, Rules, Port}
+use Rattle.acme_tree.specs.declared.node.Node.TheVariants.{Root, Cons, ConsCtl, Index, Jobs, Label, Log, NewDir}
+use Rattle.acme_tree.specs.declared.node.Node.TheVariants.{Window, File, PlumbRoot, Send, Rules, Port}
 use Rattle.acme_tree.specs.declared.node.WinFile.{WinFile}
 use Rattle.acme_tree.specs.declared.node.WinFile.TheVariants.{Addr, Body, Ctl, Data, Errors, Event, Tag, Xdata}
 use Rattle.acme_tree.specs.declared.node.World.{World}
@@ -60,6 +60,8 @@ path_of ConsCtl = 2
 path_of Index = 3
 path_of Label = 4
 path_of NewDir = 5
+path_of Log = 6
+path_of Jobs = 7
 path_of (Window w) = w * window_paths
 path_of (File w file) = w * window_paths + file_number file
 path_of PlumbRoot = 16
@@ -80,7 +82,9 @@ mode_of Root = dir_mode
 mode_of Cons = reads_and_writes
 mode_of ConsCtl = reads
 mode_of Index = reads
+mode_of Jobs = reads_and_writes
 mode_of Label = reads_and_writes
+mode_of Log = reads
 mode_of NewDir = dir_mode
 mode_of (Window w) = dir_mode
 mode_of (File w file) = file_mode file
@@ -132,7 +136,9 @@ name_of ports Root = codes "acme"
 name_of ports Cons = codes "cons"
 name_of ports ConsCtl = codes "consctl"
 name_of ports Index = codes "index"
+name_of ports Jobs = codes "jobs"
 name_of ports Label = codes "label"
+name_of ports Log = codes "log"
 name_of ports NewDir = codes "new"
 name_of ports (Window w) = decimal w
 name_of ports (File w file) = file_name file
@@ -156,9 +162,14 @@ abbrev pub ports_from : ℕ → List (List ℕ) → List Node
 ports_from k [] = []
 ports_from k (name ∷ names) = Port k ∷ ports_from (k + 1) names
 
+-- what the root of the editor's tree lists before its windows: with the files `log` and `jobs`, or without them
+abbrev pub root_front : Bool → List Node
+root_front false = Cons ∷ ConsCtl ∷ Index ∷ Label ∷ NewDir ∷ []
+root_front true = Cons ∷ ConsCtl ∷ Index ∷ Jobs ∷ Label ∷ Log ∷ NewDir ∷ []
+
 -- what the root of the editor's tree lists
 abbrev pub root_entries : World → List Node
-root_entries world = Cons ∷ ConsCtl ∷ Index ∷ Label ∷ NewDir ∷ map Window world.windows
+root_entries world = root_front world.watched ++ map Window world.windows
 
 -- a port's number is below 2 ^ 32
 abbrev pub plumber_entries : List (List ℕ) → List Node

@@ -1,7 +1,7 @@
 //! The nodes that a directory lists.
 
 ghost use Rattle.std.specs.Prelude.{◌≡◌, ◌≤◌, ◌^◌, ◌++◌, IfOk, OnOk, length, map, take};
-ghost use Rattle.acme_tree.specs.Trees.{entries, files, plumber_entries, ports_from, root_entries};
+ghost use Rattle.acme_tree.specs.Trees.{entries, files, plumber_entries, ports_from, root_entries, root_front};
 
 use crate::node::{Node, WinFile, World};
 use am_text::{Bytes, Items, NoMemory};
@@ -40,17 +40,36 @@ pub(crate) fn numbered_ports(ports: &[Bytes]) -> &[Bytes]
     numbered
 }
 
-fn of_root(alloc: Global, world: &World) -> Result<Items<Node>, NoMemory>
-    ensures { IfOk result (λ nodes. nodes ≡ root_entries world.now) }
+fn front_of_root(alloc: Global, watched: bool) -> Result<Items<Node>, NoMemory>
+    ensures { IfOk result (λ nodes. nodes ≡ root_front watched) }
 {
-    let fixed = [
+    let plain = [
         Node::Cons,
         Node::ConsCtl,
         Node::Index,
         Node::Label,
         Node::NewDir,
     ];
-    let mut nodes = Items::copied(alloc, &fixed)?;
+    let all = [
+        Node::Cons,
+        Node::ConsCtl,
+        Node::Index,
+        Node::Jobs,
+        Node::Label,
+        Node::Log,
+        Node::NewDir,
+    ];
+    if watched {
+        Items::copied(alloc, &all)
+    } else {
+        Items::copied(alloc, &plain)
+    }
+}
+
+fn of_root(alloc: Global, world: &World) -> Result<Items<Node>, NoMemory>
+    ensures { IfOk result (λ nodes. nodes ≡ root_entries world.now) }
+{
+    let mut nodes = front_of_root(alloc, world.watched)?;
     put_windows(&mut nodes, world.windows.as_slice())?;
     Ok(nodes)
 }

@@ -35,8 +35,8 @@ pub(crate) fn mode_of(node: Node) -> u32
 {
     match node {
         Node::Root | Node::NewDir | Node::Window(_) | Node::PlumbRoot => DIR_MODE,
-        Node::Cons | Node::Label | Node::Rules => READS_AND_WRITES,
-        Node::ConsCtl | Node::Index | Node::Port(_) => READS,
+        Node::Cons | Node::Jobs | Node::Label | Node::Rules => READS_AND_WRITES,
+        Node::ConsCtl | Node::Index | Node::Log | Node::Port(_) => READS,
         Node::Send => WRITES,
         Node::File(_, file) => file_mode(file),
     }
@@ -67,6 +67,8 @@ fn path_of(node: Node) -> u64
         Node::Index => 3,
         Node::Label => 4,
         Node::NewDir => 5,
+        Node::Log => 6,
+        Node::Jobs => 7,
         Node::Window(window) => u64::from(window) * WINDOW_PATHS,
         Node::File(window, file) => u64::from(window) * WINDOW_PATHS + file_number(file),
         Node::PlumbRoot => 16,

@@ -31,7 +31,11 @@ pub enum Node {
     Cons,
     ConsCtl,
     Index,
+    /// The file `jobs`: requests, which programs take and answer.
+    Jobs,
     Label,
+    /// The file `log`: what happens to windows.
+    Log,
     /// The directory `new`, in which a walk makes a window.
     NewDir,
     /// The directory of a window.
@@ -52,6 +56,8 @@ pub struct World {
     pub windows: Ids,
     /// The number that the next window gets.
     pub next: u32,
+    /// Whether the root has the files `log` and `jobs`.
+    pub watched: bool,
 }
 
 /// Whether the node is a directory.

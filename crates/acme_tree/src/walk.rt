@@ -4,7 +4,7 @@ ghost use Rattle.std.specs.Prelude.{◌≡◌, ◌==◌, ◌≤◌, ◌^◌, [],
 ghost use Rattle.std.specs.Fmt.{decimal};
 ghost use Rattle.std.specs.Option.{option_map};
 ghost use Rattle.std.specs.Str.{bytes_eq};
-ghost use Rattle.acme_tree.specs.Trees.{plumber_entries, root_entries};
+ghost use Rattle.acme_tree.specs.Trees.{plumber_entries, root_entries, root_front};
 ghost use Rattle.acme_tree.specs.Walks.{above, below, entry_named, file_named, named_in, to_entry, to_new, walk_one};
 
 use crate::entries::numbered_ports;
@@ -96,8 +96,9 @@ fn to_port(found: Option<u32>) -> Option<Node>
     found.map(Node::Port)
 }
 
-fn in_root(world: &World, name: &[u8]) -> Option<Node>
-    ensures { result ≡ named_in [] (root_entries world.now) name.now }
+// The file of this name in the front of the root.
+fn in_front(watched: bool, name: &[u8]) -> Option<Node>
+    ensures { result ≡ named_in [] (root_front watched) name.now }
 {
     if name == b"cons".as_slice() {
         Some(Node::Cons)
@@ -105,12 +106,26 @@ fn in_root(world: &World, name: &[u8]) -> Option<Node>
         Some(Node::ConsCtl)
     } else if name == b"index".as_slice() {
         Some(Node::Index)
+    } else if watched && name == b"jobs".as_slice() {
+        Some(Node::Jobs)
     } else if name == b"label".as_slice() {
         Some(Node::Label)
+    } else if watched && name == b"log".as_slice() {
+        Some(Node::Log)
     } else if name == b"new".as_slice() {
         Some(Node::NewDir)
     } else {
-        to_window(window_named(world.windows.as_slice(), name))
+        None
+    }
+}
+
+#[tactic(auto, using(crate::proofs::Named::rooted))]
+fn in_root(world: &World, name: &[u8]) -> Option<Node>
+    ensures { result ≡ named_in [] (root_entries world.now) name.now }
+{
+    match in_front(world.watched, name) {
+        Some(node) => Some(node),
+        None => to_window(window_named(world.windows.as_slice(), name)),
     }
 }
 

@@ -109,7 +109,21 @@ deleted_done e s (deed.ClearsRules ∷ ds) = deleted_done e (done e s deed.Clear
 deleted_done e s (deed.AddsPort name ∷ ds) = deleted_done e (done e s (deed.AddsPort name)) ds
 deleted_done e s (deed.Delivers port message keep ∷ ds) = deleted_done e (done e s (deed.Delivers port message keep)) ds
 
--- ---- the event files, which no deed changes
+-- ---- whether `log` and `jobs` are served, and the event files, which no deed changes
+
+pub watched_done : (e : Entry) (s : SceneState) (ds : List Deed) → (done_all e s ds).watched ≡ s.watched
+watched_done e s [] = refl
+watched_done e s (deed.Windows c ∷ ds) = watched_done e (done e s (deed.Windows c)) ds
+watched_done e s (deed.Item w item ∷ ds) = watched_done e (done e s (deed.Item w item)) ds
+watched_done e s (deed.Snarfs text ∷ ds) = watched_done e (done e s (deed.Snarfs text)) ds
+watched_done e s (deed.Stores path bytes ∷ ds) = watched_done e (done e s (deed.Stores path bytes)) ds
+watched_done e s (deed.MakesDir path ∷ ds) = watched_done e (done e s (deed.MakesDir path)) ds
+watched_done e s (deed.Requests job ∷ ds) = watched_done e (done e s (deed.Requests job)) ds
+watched_done e s (deed.Notes w op ∷ ds) = watched_done e (done e s (deed.Notes w op)) ds
+watched_done e s (deed.AddsRules sets vars text ∷ ds) = watched_done e (done e s (deed.AddsRules sets vars text)) ds
+watched_done e s (deed.ClearsRules ∷ ds) = watched_done e (done e s deed.ClearsRules) ds
+watched_done e s (deed.AddsPort name ∷ ds) = watched_done e (done e s (deed.AddsPort name)) ds
+watched_done e s (deed.Delivers port message keep ∷ ds) = watched_done e (done e s (deed.Delivers port message keep)) ds
 
 book_done : (e : Entry) (s : SceneState) (ds : List Deed) → (done_all e s ds).book ≡ s.book
 book_done e s [] = refl

@@ -42,4 +42,4 @@ module _ (order : StayInOrder) where
   all_watched e s (d ∷ ds) h = all_watched e (done e s d) ds (deed_watched e s d h)
 
   pub are_watched : RequestsAreWatched
-  are_watched = record { begins = order.begins; stays = all_watched }
+  are_watched = record { begins = λ watched. order.begins; stays = all_watched }

@@ -1,5 +1,5 @@
 -- Laws of deeds.
-use Rattle.std.specs.Prelude.{◌≡◌, List, [], ◌∷◌, ◌++◌, Option}
+use Rattle.std.specs.Prelude.{◌≡◌, Bool, List, [], ◌∷◌, ◌++◌, Option}
 use Rattle.acme_watch.specs.Laws.{AreJobs}
 use Rattle.core_windows.specs.Stories.{WindowStory, shown_windows, all_changed_stories, AreLawful}
 use Rattle.core_windows.specs.declared.change.Change.{Change}
@@ -46,5 +46,5 @@ AreWatched s = AreJobs s.jobs s.watch.jobs
 
 -- so it is at the beginning, and after any deeds
 pub record RequestsAreWatched : Type 0 where
-  pub begins : AreWatched no_scene
+  pub begins : (watched : Bool) → AreWatched (no_scene watched)
   pub stays : (e : Entry) (s : SceneState) (ds : List Deed) → AreWatched s → AreWatched (done_all e s ds)

@@ -10,7 +10,7 @@ use Rattle.rule_syntax.specs.Verbs.{is_port_name}
 use Rattle.core_stores.specs.Stores.{RuleState, no_rules, added, has_room}
 use Rattle.plumb_ports.specs.PortList.{is_there}
 use Rattle.plumb_ports.specs.PortsState.{PortsState, beginning, after_add, refusal, after_deliver}
-use Rattle.core_windows.specs.Windows.{Window, window_at, changed}
+use Rattle.core_windows.specs.Windows.{Window, window_at, changed, both_windows}
 use Rattle.core_windows.specs.declared.change.Change.{Change}
 use Rattle.core_windows.specs.Possible.{CanChange}
 use Rattle.core_scene.specs.NewItems.{items_of}
@@ -23,10 +23,12 @@ use Rattle.core_scene.specs.declared.scene.Scene.{Scene}
 use Rattle.core_scene.specs.Told.{told_in, told_if_any, teller_of, deletes}
 use Rattle.core_scene.specs.Noted.{line_of, line_of_change, with_line_if_any}
 
--- all windows, the event files, the tree of files, the snarfed text, the requests, the rules and ports of the plumber,
--- the files `log` and `jobs`, and the items that the step has made so far, and the windows that it has deleted
+-- all windows, whether the files `log` and `jobs` are served, the event files, the tree of files, the snarfed text, the
+-- requests, the rules and ports of the plumber, the files `log` and `jobs` themselves, and the items that the step has
+-- made so far, and the windows that it has deleted
 pub record SceneState : Type 0 where
   pub windows : List (Option Window)
+  pub watched : Bool
   pub book : BookState
   pub files : List (List ℕ × Node)
   pub snarf : List ℕ
@@ -120,10 +122,11 @@ deleted_by (deed.Delivers port message keep ∷ ds) = deleted_by ds
 
 -- ---- two states
 
--- nothing was ever made
-abbrev pub no_scene : SceneState
-no_scene = record {
+-- nothing was ever made; the files `log` and `jobs` are served or not
+abbrev pub no_scene : Bool → SceneState
+no_scene watched = record {
   windows = [];
+  watched = watched;
   book = empty_book;
   files = [];
   snarf = [];
@@ -139,6 +142,7 @@ no_scene = record {
 abbrev pub scene_of : Scene → SceneState
 scene_of s = record {
   windows = s.windows.present;
+  watched = s.windows.watched;
   book = s.book.present;
   files = s.files.present;
   snarf = s.snarf.present;
@@ -154,6 +158,7 @@ scene_of s = record {
 abbrev pub kept_of : Scene → SceneState
 kept_of s = record {
   windows = s.windows.kept;
+  watched = s.windows.watched;
   book = s.book.kept;
   files = s.files.kept;
   snarf = s.snarf.kept;
@@ -168,7 +173,7 @@ kept_of s = record {
 -- the scene that has this state as the present one and as the kept one, with no items and no deleted windows
 abbrev pub scene_in : SceneState → Scene
 scene_in s = record {
-  windows = both s.windows;
+  windows = both_windows s.watched s.windows;
   book = both s.book;
   files = both s.files;
   snarf = both s.snarf;
@@ -182,7 +187,7 @@ scene_in s = record {
 
 -- the present state is the kept one, and there are no items and no deleted windows
 pub record IsSettled (s : Scene) : Type 0 where
-  pub windows : IsSteady s.windows
+  pub windows : s.windows.present ≡ s.windows.kept
   pub book : IsSteady s.book
   pub files : IsSteady s.files
   pub snarf : IsSteady s.snarf

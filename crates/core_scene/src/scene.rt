@@ -55,12 +55,12 @@ impl Drop for Scene {
 }
 
 impl Scene {
-    /// Nothing was ever made.
-    pub fn new(alloc: Global) -> Result<Scene, NoMemory>
-        ensures { IfOk result (λ scene. scene ≡ scene_in no_scene) }
+    /// Nothing was ever made. `watched` says whether the files `log` and `jobs` are served.
+    pub fn new(alloc: Global, watched: bool) -> Result<Scene, NoMemory>
+        ensures { IfOk result (λ scene. scene ≡ scene_in (no_scene watched)) }
     {
         Ok(Scene {
-            windows: Windows::new(alloc),
+            windows: Windows::new(alloc, watched),
             book: Book::new(alloc),
             files: Tree::new(alloc),
             snarf: Snarf::new(alloc),

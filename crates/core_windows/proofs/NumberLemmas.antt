@@ -5,6 +5,7 @@ use Rattle.std.specs.Prelude.{IsSome}
 use Rattle.std.specs.Option.{option_map}
 use Rattle.std.proofs.lemmas.List.{length-append}
 use Rattle.std.proofs.lemmas.Bool.Decides.{nat_tests}
+use Rattle.am_text.specs.Twice.{Twice}
 use Rattle.acme_tree.specs.declared.node.World.{World}
 use Rattle.acme_tree.specs.Trees.{world_is_full}
 use Rattle.core_windows.specs.declared.change.Change.{Change}
@@ -13,8 +14,9 @@ use Rattle.core_windows.specs.declared.numbers.Numbers.{Numbers}
 use Rattle.core_windows.specs.Places.{at_place, live_at, gone}
 use Rattle.core_windows.specs.Possible.{CanChange}
 use Rattle.core_windows.specs.Windows.{Window, window_at, named_window, edited, added, set, undone_window}
-use Rattle.core_windows.specs.Windows.{redone_window, changed, numbers, world_of}
+use Rattle.core_windows.specs.Windows.{redone_window, changed, numbers, world_with}
 use Rattle.core_windows.specs.Numbering.{others, with_next, without, numbers_after, numbers_of, renumbered, MayMake}
+use Rattle.core_windows.specs.Numbering.{IsWorldOf}
 use Rattle.core_windows.proofs.Conditions.{has_place, at_its_place}
 
 -- ---- one window more
@@ -26,16 +28,16 @@ numbers_more n (None ∷ ws) x = numbers_more (n + 1) ws x ∙ ap (λ (i : ℕ).
 numbers_more n (Some y ∷ ws) x =
     ap (λ (l : List ℕ). n ∷ l) (numbers_more (n + 1) ws x ∙ ap (λ (i : ℕ). numbers (n + 1) ws ++ i ∷ []) (omega arith))
 
-abbrev world_with : List ℕ → ℕ → World
-world_with ids next = record { windows = ids; next = next }
+abbrev made_of : Bool → List ℕ → ℕ → World
+made_of b ids next = record { windows = ids; next = next; watched = b }
 
-world_more : (ws : List (Option Window)) (x : Window) → renumbered (world_of ws)
-    (Some (with_next (world_of ws))) ≡ world_of (ws ++ Some x ∷ [])
-world_more ws x =
+world_more : (b : Bool) (ws : List (Option Window)) (x : Window) → renumbered (world_with b ws)
+    (Some (with_next (world_with b ws))) ≡ world_with b (ws ++ Some x ∷ [])
+world_more b ws x =
     let more : numbers 1 (ws ++ Some x ∷ []) ≡ numbers 1 ws ++ (length ws + 1) ∷ [] = numbers_more 1 ws x
     ∙ ap (λ (i : ℕ). numbers 1 ws ++ i ∷ []) (omega arith) in
-    sym (ap (λ (l : List ℕ). world_with l (length (ws ++ Some x ∷ []) + 1)) more
-    ∙ ap (λ (i : ℕ). world_with (numbers 1 ws ++ (length ws + 1) ∷ []) (i + 1)) (length-append ws (Some x ∷ [])))
+    sym (ap (λ (l : List ℕ). made_of b l (length (ws ++ Some x ∷ []) + 1)) more
+    ∙ ap (λ (i : ℕ). made_of b (numbers 1 ws ++ (length ws + 1) ∷ []) (i + 1)) (length-append ws (Some x ∷ [])))
 
 -- ---- another window in the place of one
 
@@ -52,11 +54,11 @@ place_length f k [] = refl
 place_length f zero (x ∷ xs) = refl
 place_length f (suc k) (x ∷ xs) = ap suc (place_length f k xs)
 
-world_same : (f : Window → Window) (k : ℕ) (ws : List (Option Window))
-    → world_of ws ≡ world_of (at_place (option_map f) k ws)
-world_same f k ws =
-    sym (ap (λ (l : List ℕ). world_with l (length (at_place (option_map f) k ws) + 1)) (numbers_same f k 1 ws)
-    ∙ ap (λ (i : ℕ). world_with (numbers 1 ws) (i + 1)) (place_length (option_map f) k ws))
+world_same : (b : Bool) (f : Window → Window) (k : ℕ) (ws : List (Option Window))
+    → world_with b ws ≡ world_with b (at_place (option_map f) k ws)
+world_same b f k ws =
+    sym (ap (λ (l : List ℕ). made_of b l (length (at_place (option_map f) k ws) + 1)) (numbers_same f k 1 ws)
+    ∙ ap (λ (i : ℕ). made_of b (numbers 1 ws) (i + 1)) (place_length (option_map f) k ws))
 
 -- ---- one window less
 
@@ -89,34 +91,34 @@ numbers_less (Some v ∷ ws) (suc k) n =
     ap (λ (l : List ℕ). n ∷ l) (numbers_less ws k (n + 1) ∙ ap (λ (i : ℕ). others i (numbers (n + 1) ws)) (omega arith))
     ∙ sym (other_below n (n + suc k) (numbers (n + 1) ws) (omega arith))
 
-world_less : (ws : List (Option Window)) (w : ℕ) → 0 < w → renumbered (world_of ws)
-    (Some (without (world_of ws) w)) ≡ world_of (at_place gone (w - 1) ws)
-world_less ws w h =
+world_less : (b : Bool) (ws : List (Option Window)) (w : ℕ) → 0 < w → renumbered (world_with b ws)
+    (Some (without (world_with b ws) w)) ≡ world_with b (at_place gone (w - 1) ws)
+world_less b ws w h =
     let n : 1 + (w - 1) ≡ w = omega arith in
-    sym (ap (λ (l : List ℕ). world_with l (length (at_place gone (w - 1) ws) + 1))
+    sym (ap (λ (l : List ℕ). made_of b l (length (at_place gone (w - 1) ws) + 1))
     (numbers_less ws (w - 1) 1 ∙ ap (λ (i : ℕ). others i (numbers 1 ws)) n)
-    ∙ ap (λ (i : ℕ). world_with (others w (numbers 1 ws)) (i + 1)) (place_length gone (w - 1) ws))
+    ∙ ap (λ (i : ℕ). made_of b (others w (numbers 1 ws)) (i + 1)) (place_length gone (w - 1) ws))
 
 -- ---- any change
 
-pub world_changed : (at : ℕ) (ws : List (Option Window)) (c : Change) → CanChange ws c
-    → renumbered (world_of ws) (numbers_after (world_of ws) c) ≡ world_of (changed at ws c)
-world_changed at ws (change.Makes name) h = world_more ws (named_window name)
-world_changed at ws (change.Deletes w) h = world_less ws w (has_place ws w h)
-world_changed at ws (change.Edits w es) h = world_same (edited es at) (w - 1) ws
-world_changed at ws (change.Adds w text) h = world_same (added text) (w - 1) ws
-world_changed at ws (change.Sets w x) h = world_same (set x) (w - 1) ws
-world_changed at ws (change.Undoes w) h = world_same undone_window (w - 1) ws
-world_changed at ws (change.Redoes w) h = world_same redone_window (w - 1) ws
+pub world_changed : (b : Bool) (at : ℕ) (ws : List (Option Window)) (c : Change) → CanChange ws c
+    → renumbered (world_with b ws) (numbers_after (world_with b ws) c) ≡ world_with b (changed at ws c)
+world_changed b at ws (change.Makes name) h = world_more b ws (named_window name)
+world_changed b at ws (change.Deletes w) h = world_less b ws w (has_place ws w h)
+world_changed b at ws (change.Edits w es) h = world_same b (edited es at) (w - 1) ws
+world_changed b at ws (change.Adds w text) h = world_same b (added text) (w - 1) ws
+world_changed b at ws (change.Sets w x) h = world_same b (set x) (w - 1) ws
+world_changed b at ws (change.Undoes w) h = world_same b undone_window (w - 1) ws
+world_changed b at ws (change.Redoes w) h = world_same b redone_window (w - 1) ws
 
-pub may_make : (ws : List (Option Window)) (c : Change) → CanChange ws c → MayMake (world_of ws) c
-may_make ws (change.Makes name) h = h
-may_make ws (change.Deletes w) h = tt
-may_make ws (change.Edits w es) h = tt
-may_make ws (change.Adds w text) h = tt
-may_make ws (change.Sets w x) h = tt
-may_make ws (change.Undoes w) h = tt
-may_make ws (change.Redoes w) h = tt
+pub may_make : (b : Bool) (ws : List (Option Window)) (c : Change) → CanChange ws c → MayMake (world_with b ws) c
+may_make b ws (change.Makes name) h = h
+may_make b ws (change.Deletes w) h = tt
+may_make b ws (change.Edits w es) h = tt
+may_make b ws (change.Adds w text) h = tt
+may_make b ws (change.Sets w x) h = tt
+may_make b ws (change.Undoes w) h = tt
+may_make b ws (change.Redoes w) h = tt
 
 either_false : (a b : Bool) → (a || b) ≡ false → b ≡ false
 either_false true b e = absurd cc
@@ -127,3 +129,26 @@ can_count world e h =
     let ne : eqb world.next 4294967295 ≡ false = either_false (leb 4096 (length world.windows))
     (eqb world.next 4294967295) e in
     grind (arith, nat_tests)
+
+-- whatever numbers come, the files of the root stay
+pub stays_watched : (world : World) (n : Option Numbers) → (renumbered world n).watched ≡ world.watched
+stays_watched world None = refl
+stays_watched world (Some n) = refl
+
+-- the world of the present windows after a change
+pub world_renewed : (old new : World) (n : Option Numbers) (t u : Twice (List (Option Window))) (at : ℕ) (c : Change)
+    → CanChange t.present c → IsWorldOf old t.present → new ≡ renumbered old n → new.watched ≡ old.watched
+    → n ≡ numbers_after old c → u ≡ record t { present = changed at t.present c } → IsWorldOf new u.present
+world_renewed old new n t u at c can is world watched numbers ok =
+    world ∙ ap (λ (m : Option Numbers). renumbered old m) numbers
+    ∙ ap (λ (w : World). renumbered w (numbers_after w c)) is ∙ world_changed old.watched at t.present c can
+    ∙ ap (λ (v : Twice (List (Option Window))). world_with old.watched v.present) (sym ok)
+    ∙ ap (λ (b : Bool). world_with b u.present) (sym watched)
+
+-- the world of the kept windows after it
+pub world_kept : (old new : World) (t u : Twice (List (Option Window)))
+    (present : List (Option Window)) → IsWorldOf old t.kept → new ≡ old → u ≡ record t { present = present }
+    → IsWorldOf new u.kept
+world_kept old new t u present is same ok =
+    same ∙ is ∙ ap (λ (v : Twice (List (Option Window))). world_with old.watched v.kept) (sym ok)
+    ∙ ap (λ (w : World). world_with w.watched u.kept) (sym same)

@@ -6,7 +6,7 @@ use Rattle.acme_tree.specs.Trees.{world_is_full}
 use Rattle.core_windows.specs.declared.change.Change.{Change}
 use Rattle.core_windows.specs.declared.change.Change.TheVariants as change
 use Rattle.core_windows.specs.declared.numbers.Numbers.{Numbers}
-use Rattle.core_windows.specs.Windows.{Window, world_of}
+use Rattle.core_windows.specs.Windows.{Window, world_with}
 
 -- these numbers without that one
 abbrev pub others : ℕ → List ℕ → List ℕ
@@ -49,7 +49,11 @@ abbrev pub renumbered : World → Option Numbers → World
 renumbered world None = world
 renumbered world (Some n) = record world { windows = n.windows; next = n.next }
 
+-- the world has the numbers of these windows
+abbrev pub IsWorldOf : World → List (Option Window) → Type 0
+IsWorldOf world windows = world ≡ world_with world.watched windows
+
 -- the world is that of the present windows, and with the earlier numbers that of the kept ones
 pub record IsNumbered (windows : Twice (List (Option Window))) (world : World) (earlier : Option Numbers) : Type 0 where
-  pub present : world ≡ world_of windows.present
-  pub kept : renumbered world earlier ≡ world_of windows.kept
+  pub present : IsWorldOf world windows.present
+  pub kept : IsWorldOf (renumbered world earlier) windows.kept

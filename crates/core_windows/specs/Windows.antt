@@ -120,6 +120,22 @@ numbers w [] = []
 numbers w (None ∷ ws) = numbers (w + 1) ws
 numbers w (Some window ∷ ws) = w ∷ numbers (w + 1) ws
 
--- what the trees see of the windows
+-- what the trees see of the windows, where the root has the files `log` and `jobs` or not
+abbrev pub world_with : Bool → List (Option Window) → World
+world_with watched windows = record { windows = numbers 1 windows; next = length windows + 1; watched = watched }
+
+-- the same for those who ask for the numbers alone
 abbrev pub world_of : List (Option Window) → World
-world_of windows = record { windows = numbers 1 windows; next = length windows + 1 }
+world_of windows = world_with false windows
+
+-- ---- two states
+
+-- all windows in their present state and in the kept one, and whether the root has the files `log` and `jobs`
+pub record WindowsState : Type 0 where
+  pub present : List (Option Window)
+  pub kept : List (Option Window)
+  pub watched : Bool
+
+-- both states are this one
+abbrev pub both_windows : Bool → List (Option Window) → WindowsState
+both_windows watched windows = record { present = windows; kept = windows; watched = watched }

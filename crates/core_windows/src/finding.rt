@@ -3,8 +3,9 @@
 ghost use Rattle.std.specs.Prelude.{◌≡◌, ◌+◌, ◌<◌, true, false, Option, Some, None, MatchOption, IfSome, IsSome};
 ghost use Rattle.std.specs.Prelude.{length, slice_get, slice_index_or, position};
 ghost use Rattle.std.specs.Option.{option_map};
+ghost use Rattle.core_windows.specs.Numbering.{IsWorldOf};
 ghost use Rattle.core_windows.specs.Places.{when_made};
-ghost use Rattle.core_windows.specs.Windows.{window_at, world_of, named};
+ghost use Rattle.core_windows.specs.Windows.{window_at, named};
 ghost use Rattle.core_windows.specs.Panes.{window_of, windows_of, has_name, pane_at, IsPlaceOf};
 ghost use Rattle.core_windows.specs.declared.pane.Pane.{Pane};
 
@@ -65,7 +66,7 @@ fn named_place(panes: &[Option<Pane>], name: &[Rune]) -> Option<usize>
 
 // The number of the window at a place.
 fn number_at(world: &World, panes: &[Option<Pane>], place: Option<usize>) -> Option<u32>
-    requires few { world.now ≡ world_of (windows_of panes.now) }
+    requires few { IsWorldOf world.now (windows_of panes.now) }
     requires place { IfSome place (λ at. at < length panes.now) }
     ensures { result ≡ option_map (λ at. at + 1) place }
 {
@@ -79,7 +80,7 @@ fn number_at(world: &World, panes: &[Option<Pane>], place: Option<usize>) -> Opt
 
 /// The number of the first live window that has this name.
 pub(crate) fn number_of(world: &World, panes: &[Option<Pane>], name: &[Rune]) -> Option<u32>
-    requires { world.now ≡ world_of (windows_of panes.now) }
+    requires { IsWorldOf world.now (windows_of panes.now) }
     ensures number { result ≡ named (windows_of panes.now) name.now }
     ensures lives { IfSome result (λ window. IsSome (window_at (windows_of panes.now) window)) }
 {

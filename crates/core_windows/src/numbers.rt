@@ -4,7 +4,7 @@ ghost use Rattle.std.specs.Prelude.{◌≡◌, ◌==◌, not, false, [], filter,
 ghost use Rattle.acme_tree.specs.Trees.{world_is_full};
 ghost use Rattle.core_windows.specs.Numbering.{others, with_next, without, numbers_after, numbers_of, renumbered};
 ghost use Rattle.core_windows.specs.Numbering.{MayMake};
-ghost use Rattle.core_windows.specs.Windows.{world_of};
+ghost use Rattle.core_windows.specs.Windows.{world_with};
 
 use crate::change::Change;
 use acme_tree::World;
@@ -20,12 +20,13 @@ pub struct Numbers {
 }
 
 /// No window. It takes no memory.
-pub(crate) fn new_world(alloc: Global) -> World
-    ensures { result ≡ world_of [] }
+pub(crate) fn new_world(alloc: Global, watched: bool) -> World
+    ensures { result ≡ world_with watched [] }
 {
     World {
         windows: Items::new(alloc),
         next: 1,
+        watched,
     }
 }
 
@@ -96,6 +97,7 @@ fn exchanged(world: &mut World, numbers: Numbers) -> Numbers
 /// are the first to change.
 pub(crate) fn renumber(world: &mut World, earlier: &mut Option<Numbers>, numbers: Option<Numbers>)
     ensures world { world.new ≡ renumbered world.old numbers }
+    ensures watched { world.new.watched ≡ world.old.watched }
     ensures kept { renumbered world.new earlier.new ≡ renumbered world.old earlier.old }
 {
     if let Some(numbers) = numbers {
@@ -109,6 +111,7 @@ pub(crate) fn renumber(world: &mut World, earlier: &mut Option<Numbers>, numbers
 /// Puts the numbers of the kept windows into the world. It takes no memory.
 pub(crate) fn take_numbers_back(world: &mut World, earlier: &mut Option<Numbers>)
     ensures world { world.new ≡ renumbered world.old earlier.old }
+    ensures watched { world.new.watched ≡ world.old.watched }
     ensures earlier { earlier.new ≡ None }
 {
     if let Some(numbers) = earlier.take() {

@@ -2,8 +2,7 @@
 
 ghost use Rattle.std.specs.Prelude.{◌≡◌, [], Some, None, MatchOption, IsSome, IfSome, OnOk, OnErr, length};
 ghost use Rattle.std.specs.Option.{option_map};
-ghost use Rattle.am_text.specs.Twice.{both};
-ghost use Rattle.core_windows.specs.Windows.{window_at, window_addr, world_of, named, changed};
+ghost use Rattle.core_windows.specs.Windows.{window_at, window_addr, world_with, both_windows, named, changed};
 ghost use Rattle.core_windows.specs.Possible.{CanChange};
 ghost use Rattle.core_windows.specs.Panes.{window_of, windows_of};
 
@@ -40,36 +39,35 @@ impl Drop for Windows {
 }
 
 impl Model for Windows {
-    ghost use Rattle.std.specs.Prelude.{List, Option};
-    ghost use Rattle.am_text.specs.Twice.{Twice};
-    ghost use Rattle.core_windows.specs.Windows.{Window};
+    ghost use Rattle.core_windows.specs.Windows.{WindowsState};
 
-    ghost Value = { Twice (List (Option Window)) };
+    ghost Value = { WindowsState };
 
     ghost use Rattle.core_windows.specs.Numbering.{IsNumbered};
 
-    ghost view = { λ w. w.states };
+    ghost view = { λ w. record { present = w.states.present; kept = w.states.kept; watched = w.world.watched } };
 
     ghost invariant = { λ w. IsNumbered w.states w.world w.earlier };
 }
 
 impl Windows {
-    /// No window was ever made. It takes no memory.
-    pub fn new(alloc: Global) -> Windows
-        ensures { result ≡ both [] }
+    /// No window was ever made; the root of the editor's tree has the files `log` and `jobs`, or doesn't. It takes no
+    /// memory.
+    pub fn new(alloc: Global, watched: bool) -> Windows
+        ensures { result ≡ both_windows watched [] }
     {
         Windows {
             alloc,
             states: States::new(alloc),
-            world: new_world(alloc),
+            world: new_world(alloc, watched),
             earlier: None,
         }
     }
 
     /// What the editor's tree is made of: the numbers of the live windows, and the number that the next
-    /// window gets. No number is given twice.
+    /// window gets, and whether it is watched. No number is given twice.
     pub fn world(&self) -> &World
-        ensures { result.now ≡ world_of self.now.present }
+        ensures { result.now ≡ world_with self.now.watched self.now.present }
     {
         &self.world
     }
@@ -127,7 +125,7 @@ impl Windows {
 
     /// The present state becomes the kept one. It takes no memory.
     pub fn keep(&mut self)
-        ensures { self.new ≡ both self.old.present }
+        ensures { self.new ≡ both_windows self.old.watched self.old.present }
     {
         self.states.keep();
         self.earlier = None;
@@ -135,7 +133,7 @@ impl Windows {
 
     /// The kept state becomes the present one again. It takes no memory.
     pub fn back(&mut self)
-        ensures { self.new ≡ both self.old.kept }
+        ensures { self.new ≡ both_windows self.old.watched self.old.kept }
     {
         self.states.back();
         take_numbers_back(&mut self.world, &mut self.earlier);

@@ -72,6 +72,7 @@ pub fn small_report(alloc: Global) -> Result<Bytes, Fault> {
         windows: Items::new(alloc),
         items: items(alloc)?,
         jobs: requests(alloc)?,
+        lives: Items::new(alloc),
     };
     in_one_line(alloc, report(alloc, &view)?.as_slice())
 }

@@ -31,7 +31,11 @@ fn trees_with(alloc: Global, next: u32) -> Result<Trees, NoMemory> {
     ports.push(Bytes::copied(alloc, b"edit")?)?;
     let windows = Items::copied(alloc, &[1])?;
     Ok(Trees {
-        world: World { windows, next },
+        world: World {
+            windows,
+            next,
+            watched: false,
+        },
         ports,
     })
 }
