@@ -21,6 +21,9 @@ use Rattle.core_answers.specs.Addressing.{data_reaction, xdata_reaction, addr_or
 use Rattle.core_answers.specs.Addressing.{data_or_refusal, taking_reaction}
 use Rattle.core_fids.specs.declared.content.Content.{Content}
 use Rattle.core_fids.specs.declared.content.Content.TheVariants as content
+use Rattle.acme_watch.specs.declared.types.WatchFile.{WatchFile}
+use Rattle.acme_watch.specs.declared.types.WatchFile.TheVariants as watch
+use Rattle.core_fids.specs.declared.effect.WatchOpening.{WatchOpening}
 use Rattle.core_fids.specs.declared.effect.Effect.{Effect}
 use Rattle.core_fids.specs.declared.effect.Effect.TheVariants as effect
 use Rattle.core_fids.specs.declared.effect.Demand.{Demand}
@@ -40,13 +43,16 @@ use Rattle.core_fids.specs.Servers.{ServerState, world_by, fid_by}
 use Rattle.core_fids.specs.Walking.{course, walk_refusal, arrives_at, or_walks, walk_from}
 use Rattle.core_fids.specs.Opening.{open_refusal, or_opens, open_fid, denial, clunk_fid, remove_fid}
 use Rattle.core_fids.specs.Directories.{Tread, place_at, read_dir, stat_fid}
-use Rattle.core_answers.specs.Reading.{read_opening, read_port, read_content, use_refusal, or_reads, lowered, read_fid}
+use Rattle.core_answers.specs.Reading.{read_opening, read_port, read_watch, read_content, use_refusal, or_reads}
+use Rattle.core_answers.specs.Reading.{lowered, read_fid}
 use Rattle.core_answers.specs.Writing.{Twrite, change_reaction, if_lives, append_reaction, add_reaction, or_errors}
-use Rattle.core_answers.specs.Writing.{errors_reaction, asking_reaction, write_content, write_fid}
+use Rattle.core_answers.specs.Writing.{errors_reaction, asking_reaction, answer_reaction, watch_reaction}
+use Rattle.core_answers.specs.Writing.{write_content, write_fid}
 use Rattle.core_answers.specs.Erring.{fits_in, fits_tag, appends, errors_of, root_errors, errors_refusal}
 use Rattle.core_answers.specs.Texts.{text_at, right_of}
 use Rattle.core_fids.specs.Contents.{content_of}
-use Rattle.core_fids.specs.Fids.{is_for_reading, is_for_writing, event_opening, port_opening, fid_with_part}
+use Rattle.core_fids.specs.Fids.{is_for_reading, is_for_writing, event_opening, port_opening, watch_opening}
+use Rattle.core_fids.specs.Fids.{fid_with_part}
 use Rattle.core_answers.specs.Reactions.{session_reaction, comes_first}
 use Rattle.core_answers.specs.Laws.{IsAnswered, EachIsAnswered}
 
@@ -155,6 +161,10 @@ module _ (fid offset count : ℕ) (server : ServerState) (asked : Tread) where
   read_port_answers None = tt
   read_port_answers (Some opening) = refl
 
+  read_watch_answers : (o : Option WatchOpening) → Answers (t.Read fid offset count) (read_watch asked o)
+  read_watch_answers None = tt
+  read_watch_answers (Some opening) = refl
+
   data_answers : (w : ℕ) (o : Option Window) → IsAnswered (t.Read fid offset count)
       (data_reaction w asked.count o).answer
   data_answers w None = inl refl
@@ -181,6 +191,7 @@ module _ (fid offset count : ℕ) (server : ServerState) (asked : Tread) where
   read_content_answers f content.SendText = tt
   read_content_answers f content.RulesText = inl refl
   read_content_answers f (content.PortOf k) = read_port_answers (port_opening f)
+  read_content_answers f (content.WatchOf file) = read_watch_answers (watch_opening f)
 
   read_answers : (o : Option Fid) → Answers (t.Read fid offset count) (read_fid server asked o)
   read_answers None = tt
@@ -225,6 +236,16 @@ asking_answers : (windows : List (Option Window)) (offset : ℕ) (asked : Twrite
     → Answers (t.Write asked.number offset asked.bytes) (asking_reaction windows asked w d)
 asking_answers windows offset asked w d =
     if_lives_answers (t.Write asked.number offset asked.bytes) (window_at windows w) _ (inl refl)
+
+answer_answers : (offset : ℕ) (asked : Twrite) (o : Option WatchOpening)
+    → Answers (t.Write asked.number offset asked.bytes) (answer_reaction asked o)
+answer_answers offset asked None = tt
+answer_answers offset asked (Some o) = inl refl
+
+watch_answers : (offset : ℕ) (asked : Twrite) (f : Fid) (file : WatchFile)
+    → Answers (t.Write asked.number offset asked.bytes) (watch_reaction asked f file)
+watch_answers offset asked f watch.Log = tt
+watch_answers offset asked f watch.Jobs = answer_answers offset asked (watch_opening f)
 
 addr_set_answers : (fid offset w : ℕ) (bytes : List ℕ) (x : Result Range RangeFault)
     → Answers (t.Write fid offset bytes) (addr_or_refusal w (length bytes) x)
@@ -273,6 +294,7 @@ write_content_answers windows offset asked f (content.EventsOf w) =
 write_content_answers windows offset asked f content.SendText = inl refl
 write_content_answers windows offset asked f content.RulesText = inl refl
 write_content_answers windows offset asked f (content.PortOf k) = tt
+write_content_answers windows offset asked f (content.WatchOf file) = watch_answers offset asked f file
 
 write_answers : (server : ServerState) (offset : ℕ) (asked : Twrite) (o : Option Fid)
     → Answers (t.Write asked.number offset asked.bytes) (write_fid server asked o)

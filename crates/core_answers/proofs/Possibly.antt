@@ -1,7 +1,7 @@
 -- Changes that can be made.
 use Rattle.std.proofs.Common.{◌≡◌, ℕ, ◌+◌, Bool, true, false, cond, List, [], ◌∷◌, ◌++◌, length, Option, Some, None}
 use Rattle.std.proofs.Common.{refl, sym, ap, subst, ◌<◌, ◌^◌, arith}
-use Rattle.std.specs.Prelude.{eqb, Result, IsSome}
+use Rattle.std.specs.Prelude.{eqb, IfOk, Result, Ok, Err, IsSome}
 use Rattle.acme_tree.specs.Trees.{world_is_full}
 use Rattle.am_text.specs.declared.range.Range.{Range}
 use Rattle.core_addresses.specs.Data.{data_taken, Tells}
@@ -21,11 +21,13 @@ use Rattle.core_windows.proofs.Steps.{edits_then_set, made_there}
 use Rattle.core_answers.specs.Addressing.{sets_addr, edits_with_addr, fault_of, addr_or_refusal, addr_reaction}
 use Rattle.core_answers.specs.Addressing.{data_or_refusal, taking_reaction}
 use Rattle.core_fids.specs.declared.effect.Demand.{Demand}
+use Rattle.core_fids.specs.declared.effect.Demand.TheVariants as demand
 use Rattle.core_fids.specs.declared.effect.Reaction.{Reaction}
 use Rattle.core_fids.specs.Plainly.{demands}
 use Rattle.core_fids.specs.Done.{CanBeMade, IsOfLiving, IsDone}
 use Rattle.core_fids.proofs.Answers.{still_done, made_done}
 use Rattle.core_fids.specs.Refusals.{Gives}
+use Rattle.core_fids.specs.declared.refusal.Fault.{Fault}
 use Rattle.core_answers.specs.Erring.{edits_at_end, appends, errors_changes}
 use Rattle.core_answers.specs.Texts.{text_at}
 
@@ -124,7 +126,22 @@ demands_done windows w count e d is small there own =
       demand = own there;
     })
 
-pub ruleset asked = (demands_done)
+pub answers_done : (windows : List (Option Window)) (opening count : ℕ) (text : List ℕ) (d : Reaction)
+    → d ≡ demands (demand.Answers opening text) count → count < 2 ^ 32 → IsDone windows d
+answers_done windows opening count text d is small =
+    subst (IsDone windows) (sym is) (record {
+      sent = record { body = omega (arith, small); size = omega arith };
+      possible = λ at. tt;
+      demand = tt;
+    })
+
+-- what can be done whatever the windows are can be done with these
+pub done_with : (windows : List (Option Window)) (x : Result Reaction Fault)
+    → IfOk x (λ r. (ws : List (Option Window)) → IsDone ws r) → IfOk x (IsDone windows)
+done_with windows (Ok r) h = h windows
+done_with windows (Err e) h = tt
+
+pub ruleset asked = (demands_done, answers_done)
 
 pub ruleset still = (still_done)
 

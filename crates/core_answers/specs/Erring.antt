@@ -1,5 +1,5 @@
 -- Texts for windows: what is put at the end of a body, and what is written to `errors` and `cons`.
-use Rattle.std.specs.Prelude.{ℕ, ◌+◌, ◌==◌, Bool, nat_le, List, [], ◌∷◌, ◌++◌, length, codes, Option, Some, None}
+use Rattle.std.specs.Prelude.{ℕ, ◌+◌, ◌==◌, Bool, nat_le, List, [], ◌∷◌, length, codes, Option, Some, None}
 use Rattle.std.specs.Prelude.{if◌then◌else◌}
 use Rattle.edit_log.specs.declared.types.Edit.{Edit}
 use Rattle.acme_tree.specs.Trees.{world_is_full}

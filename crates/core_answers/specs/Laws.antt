@@ -5,7 +5,7 @@ use Rattle.ninep_types.specs.declared.message.RBody.{RBody}
 use Rattle.ninep_types.specs.declared.message.RBody.TheVariants as r
 use Rattle.ninep_types.specs.Spelling.{kind_t, kind_r}
 use Rattle.core_fids.specs.declared.effect.Answer.{Answer}
-use Rattle.core_fids.specs.declared.effect.Answer.TheVariants.{Says, Reads, ReadsPort}
+use Rattle.core_fids.specs.declared.effect.Answer.TheVariants.{Says, Reads, ReadsPort, ReadsWatch}
 use Rattle.core_fids.specs.declared.refusal.Refusal.{Refusal}
 use Rattle.core_fids.specs.Servers.{ServerState}
 use Rattle.ninep_types.specs.Kinds.{tread}
@@ -22,6 +22,7 @@ abbrev pub IsAnswered : TBody → Answer → Type 0
 IsAnswered asked (Says answer) = (kind_r answer ≡ kind_t asked + 1) ⊎ IsRefused answer
 IsAnswered asked (Reads fid opening count) = kind_t asked ≡ tread
 IsAnswered asked (ReadsPort fid opening count) = kind_t asked ≡ tread
+IsAnswered asked (ReadsWatch fid opening count) = kind_t asked ≡ tread
 
 -- In each state each message of each connection is answered.
 abbrev pub EachIsAnswered : Type 0

@@ -8,7 +8,9 @@ use Rattle.fid_table.specs.Tables.{msize_of}
 use Rattle.core_fids.specs.declared.effect.Effect.TheVariants as effect
 use Rattle.core_fids.specs.declared.effect.EventChange.TheVariants as events
 use Rattle.core_fids.specs.declared.effect.Demand.TheVariants as demand
-use Rattle.core_fids.specs.declared.effect.Answer.TheVariants.{Reads, ReadsPort}
+use Rattle.core_fids.specs.declared.effect.Answer.{Answer}
+use Rattle.core_fids.specs.declared.effect.WatchOpening.{WatchOpening}
+use Rattle.core_fids.specs.declared.effect.Answer.TheVariants.{Reads, ReadsPort, ReadsWatch}
 use Rattle.core_fids.specs.declared.effect.Reaction.{Reaction}
 use Rattle.core_fids.specs.Plainly.{does}
 use Rattle.core_fids.specs.declared.refusal.Refusal.{Refusal}
@@ -19,7 +21,7 @@ use Rattle.ninep_types.specs.Limits.{rread_head}
 use Rattle.core_answers.specs.Addressing.{addr_text, data_reaction, xdata_reaction}
 use Rattle.core_fids.specs.Contents.{content_of}
 use Rattle.core_fids.specs.Directories.{Tread, place_at, read_dir}
-use Rattle.core_fids.specs.Fids.{is_for_reading, event_opening, port_opening}
+use Rattle.core_fids.specs.Fids.{is_for_reading, event_opening, port_opening, watch_opening}
 use Rattle.core_fids.specs.Servers.{ServerState, world_by, fid_by}
 use Rattle.core_windows.specs.Windows.{window_at}
 use Rattle.core_answers.specs.Texts.{part_at, read_of, text_at, tag_if_live, ctl_if_live, index_from}
@@ -28,29 +30,32 @@ use Rattle.core_answers.specs.Texts.{part_at, read_of, text_at, tag_if_live, ctl
 abbrev pub bytes_reaction : List ℕ → Reaction
 bytes_reaction bytes = does effect.Nothing [] (r.Read bytes)
 
--- ---- event files and ports
+-- ---- event files, ports, `log` and `jobs`
+
+-- what is answered so, once something is there, where nothing changes
+abbrev pub waiting_reaction : Answer → Reaction
+waiting_reaction answer = record {
+  effect = effect.Nothing;
+  events = events.Nothing;
+  changes = [];
+  demand = demand.Nothing;
+  answer = answer;
+}
 
 -- A read of an event file gets what is there for its opening, or it waits.
 abbrev pub read_opening : Tread → Option ℕ → Result Reaction Refusal
 read_opening asked None = Err refusal.FidIsNotOpen
-read_opening asked (Some opening) = Ok (record {
-  effect = effect.Nothing;
-  events = events.Nothing;
-  changes = [];
-  demand = demand.Nothing;
-  answer = Reads asked.number opening asked.count;
-})
+read_opening asked (Some opening) = Ok (waiting_reaction (Reads asked.number opening asked.count))
 
 -- A read of a port likewise.
 abbrev pub read_port : Tread → Option ℕ → Result Reaction Refusal
 read_port asked None = Err refusal.FidIsNotOpen
-read_port asked (Some opening) = Ok (record {
-  effect = effect.Nothing;
-  events = events.Nothing;
-  changes = [];
-  demand = demand.Nothing;
-  answer = ReadsPort asked.number opening asked.count;
-})
+read_port asked (Some opening) = Ok (waiting_reaction (ReadsPort asked.number opening asked.count))
+
+-- A read of `log` or of `jobs` likewise.
+abbrev pub read_watch : Tread → Option WatchOpening → Result Reaction Refusal
+read_watch asked None = Err refusal.FidIsNotOpen
+read_watch asked (Some opening) = Ok (waiting_reaction (ReadsWatch asked.number opening asked.count))
 
 -- ---- Tread
 
@@ -77,6 +82,7 @@ read_content server asked fid content.SendText = Err refusal.PermissionDenied
 read_content server asked fid content.RulesText =
     Ok (bytes_reaction (part_at server.plumber.text asked.offset asked.count))
 read_content server asked fid (content.PortOf k) = read_port asked (port_opening fid)
+read_content server asked fid (content.WatchOf file) = read_watch asked (watch_opening fid)
 
 -- a fid is used where it was opened for that
 abbrev pub mode_refusal : Option ℕ → (ℕ → Bool) → Option Refusal

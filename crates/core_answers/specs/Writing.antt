@@ -4,6 +4,8 @@ use Rattle.std.specs.Prelude.{if◌then◌else◌}
 use Rattle.am_text.specs.Part.{part_bytes, part_of}
 use Rattle.am_text.specs.Pieces.{Decoded, decode_part}
 use Rattle.ninep_types.specs.declared.message.RBody.TheVariants as r
+use Rattle.acme_watch.specs.declared.types.WatchFile.{WatchFile}
+use Rattle.acme_watch.specs.declared.types.WatchFile.TheVariants.{Log, Jobs}
 use Rattle.fid_table.specs.declared.types.Fid.{Fid}
 use Rattle.core_windows.specs.declared.change.Change.{Change}
 use Rattle.core_windows.specs.declared.change.Change.TheVariants as change
@@ -11,6 +13,7 @@ use Rattle.core_windows.specs.Windows.{Window, window_at, named}
 use Rattle.core_fids.specs.declared.effect.Effect.TheVariants as effect
 use Rattle.core_fids.specs.declared.effect.EventChange.TheVariants as events
 use Rattle.core_fids.specs.declared.effect.Answer.TheVariants.{Says}
+use Rattle.core_fids.specs.declared.effect.WatchOpening.{WatchOpening}
 use Rattle.core_fids.specs.declared.effect.Demand.{Demand}
 use Rattle.core_fids.specs.declared.effect.Demand.TheVariants as demand
 use Rattle.core_fids.specs.declared.effect.Reaction.{Reaction}
@@ -23,7 +26,7 @@ use Rattle.core_answers.specs.Addressing.{addr_reaction, taking_reaction}
 use Rattle.core_fids.specs.Contents.{content_of}
 use Rattle.core_answers.specs.Erring.{fits_in, fits_tag, appends, errors_of, root_errors, errors_changes}
 use Rattle.core_answers.specs.Erring.{errors_refusal}
-use Rattle.core_fids.specs.Fids.{is_for_writing, fid_with_part, held_with, emptied_fid}
+use Rattle.core_fids.specs.Fids.{is_for_writing, fid_with_part, held_with, emptied_fid, watch_opening}
 use Rattle.core_fids.specs.Servers.{ServerState, world_by, fid_by}
 use Rattle.core_answers.specs.Reading.{use_refusal, or_reads}
 use Rattle.core_answers.specs.declared.write.Writing.{Writing}
@@ -95,6 +98,18 @@ demand_reaction asked fid d = record {
   answer = Says (r.Write (length asked.bytes));
 }
 
+-- ---- answers to requests: the scene takes them, or refuses
+
+-- an answer to a request is one by an opening of `jobs`
+abbrev pub answer_reaction : Twrite → Option WatchOpening → Result Reaction Refusal
+answer_reaction asked None = Err refusal.FidIsNotOpen
+answer_reaction asked (Some o) = Ok (demands (demand.Answers o.opening asked.bytes) (length asked.bytes))
+
+-- a write to `jobs` is an answer; `log` isn't written
+abbrev pub watch_reaction : Twrite → Fid → WatchFile → Result Reaction Refusal
+watch_reaction asked fid Log = Err refusal.PermissionDenied
+watch_reaction asked fid Jobs = answer_reaction asked (watch_opening fid)
+
 -- ---- all files
 
 -- what is written to a file that holds nothing is dropped
@@ -118,6 +133,7 @@ write_content windows asked fid content.SendText =
 write_content windows asked fid content.RulesText =
     Ok (demand_reaction asked fid (demand.AddsRules (held_with fid asked.bytes)))
 write_content windows asked fid (content.PortOf k) = Err refusal.PermissionDenied
+write_content windows asked fid (content.WatchOf file) = watch_reaction asked fid file
 
 -- what a Twrite of this fid does
 abbrev pub write_fid : ServerState → Twrite → Option Fid → Result Reaction Refusal

@@ -3,13 +3,13 @@
 ghost use Rattle.std.specs.Prelude.{◌≡◌, ◌+◌, ◌<◌, ◌^◌, IfOk, IfErr, Ok, length};
 ghost use Rattle.core_fids.specs.Contents.{content_of};
 ghost use Rattle.core_fids.specs.Directories.{asked_in};
-ghost use Rattle.core_fids.specs.Done.{IsDone, IsStill};
-ghost use Rattle.core_fids.specs.Fids.{event_opening, is_for_reading, is_for_writing, port_opening};
+ghost use Rattle.core_fids.specs.Done.{HasSpelling, IsDone, IsStill};
+ghost use Rattle.core_fids.specs.Fids.{event_opening, is_for_reading, is_for_writing, port_opening, watch_opening};
 ghost use Rattle.core_fids.specs.Refusals.{Gives};
 ghost use Rattle.core_fids.specs.Servers.{server_in, windows_in};
 ghost use Rattle.ninep_types.specs.Limits.{rread_head};
 ghost use Rattle.core_answers.specs.Reading.{bytes_reaction, read_content, read_opening, read_port, use_refusal, most};
-ghost use Rattle.core_answers.specs.Reading.{read_reaction};
+ghost use Rattle.core_answers.specs.Reading.{read_reaction, read_watch, waiting_reaction};
 ghost use Rattle.core_answers.specs.Texts.{part_at};
 
 use crate::addressing::{addr_text, read_data, read_xdata};
@@ -19,6 +19,7 @@ use am_text::{Bytes, Items, NoMemory, utf8_slice};
 use core_fids::{
     Answer, Content, Demand, Effect, EventChange, Fault, Reaction, Reading, Refusal, Server,
     content_of, event_opening, is_for_reading, is_for_writing, port_names, port_opening, read_dir,
+    watch_opening,
 };
 use fid_table::Fid;
 use ninep_types::{RBody, RREAD_HEAD};
@@ -43,6 +44,21 @@ fn show_part(alloc: Global, bytes: &[u8], reading: &Reading) -> Result<Reaction,
     Ok(show(alloc, part))
 }
 
+// What is answered so, once something is there, and changes nothing.
+fn wait(alloc: Global, answer: Answer) -> Reaction
+    requires { HasSpelling answer }
+    ensures exact { result ≡ waiting_reaction answer }
+    ensures still { IsStill result }
+{
+    Reaction {
+        effect: Effect::Nothing,
+        events: EventChange::Nothing,
+        changes: Items::new(alloc),
+        demand: Demand::Nothing,
+        answer,
+    }
+}
+
 // A read of an event file, which gets what is there for its opening, or waits.
 fn read_opening(alloc: Global, reading: &Reading) -> Result<Reaction, Fault>
     requires { reading.now.count + rread_head < 2 ^ 32 }
@@ -54,17 +70,12 @@ fn read_opening(alloc: Global, reading: &Reading) -> Result<Reaction, Fault>
     let Some(opening) = event_opening(reading.fid) else {
         return Err(Fault::Refused(Refusal::FidIsNotOpen));
     };
-    Ok(Reaction {
-        effect: Effect::Nothing,
-        events: EventChange::Nothing,
-        changes: Items::new(alloc),
-        demand: Demand::Nothing,
-        answer: Answer::Reads {
-            fid: reading.number,
-            opening,
-            count: reading.count,
-        },
-    })
+    let answer = Answer::Reads {
+        fid: reading.number,
+        opening,
+        count: reading.count,
+    };
+    Ok(wait(alloc, answer))
 }
 
 // A read of a port, which gets what is there for its opening, or waits.
@@ -78,17 +89,31 @@ fn read_port(alloc: Global, reading: &Reading) -> Result<Reaction, Fault>
     let Some(opening) = port_opening(reading.fid) else {
         return Err(Fault::Refused(Refusal::FidIsNotOpen));
     };
-    Ok(Reaction {
-        effect: Effect::Nothing,
-        events: EventChange::Nothing,
-        changes: Items::new(alloc),
-        demand: Demand::Nothing,
-        answer: Answer::ReadsPort {
-            fid: reading.number,
-            opening,
-            count: reading.count,
-        },
-    })
+    let answer = Answer::ReadsPort {
+        fid: reading.number,
+        opening,
+        count: reading.count,
+    };
+    Ok(wait(alloc, answer))
+}
+
+// A read of `log` or of `jobs`, which gets what is there for its opening, or waits.
+fn read_watch(alloc: Global, reading: &Reading) -> Result<Reaction, Fault>
+    requires { reading.now.count + rread_head < 2 ^ 32 }
+    ensures exact { IfOk result (λ r. read_watch (asked_in reading.now) (watch_opening reading.now.fid.now) ≡ Ok r) }
+    ensures refused { IfErr result (λ e. Gives e (read_watch (asked_in reading.now)
+        (watch_opening reading.now.fid.now))) }
+    ensures still { IfOk result IsStill }
+{
+    let Some(opening) = watch_opening(reading.fid) else {
+        return Err(Fault::Refused(Refusal::FidIsNotOpen));
+    };
+    let answer = Answer::ReadsWatch {
+        fid: reading.number,
+        opening,
+        count: reading.count,
+    };
+    Ok(wait(alloc, answer))
 }
 
 #[tactic(auto, using(crate::proofs::Possibly::still))]
@@ -134,6 +159,7 @@ fn read_content(alloc: Global, server: &Server, reading: &Reading) -> Result<Rea
         Content::SendText => Err(Fault::Refused(Refusal::PermissionDenied)),
         Content::RulesText => Ok(show_part(alloc, server.rules.text(), reading)?),
         Content::PortOf(_) => read_port(alloc, reading),
+        Content::WatchOf(_) => read_watch(alloc, reading),
     }
 }
 

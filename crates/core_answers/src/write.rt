@@ -6,12 +6,12 @@ ghost use Rattle.am_text.specs.Part.{part_bytes, part_of};
 ghost use Rattle.am_text.specs.Pieces.{decode_part};
 ghost use Rattle.core_fids.specs.Contents.{content_of};
 ghost use Rattle.core_fids.specs.Done.{HasSpelling, IsOfLiving, IsDone};
-ghost use Rattle.core_fids.specs.Fids.{fid_with_part};
+ghost use Rattle.core_fids.specs.Fids.{fid_with_part, watch_opening};
 ghost use Rattle.core_fids.specs.Refusals.{Gives};
 ghost use Rattle.core_fids.specs.Servers.{server_in, windows_in};
 ghost use Rattle.core_answers.specs.Writing.{asked_in, demand_reaction, whole_runes, change_reaction, append_reaction};
 ghost use Rattle.core_answers.specs.Writing.{add_reaction, errors_reaction, asking_reaction, write_content};
-ghost use Rattle.core_answers.specs.Writing.{write_reaction};
+ghost use Rattle.core_answers.specs.Writing.{answer_reaction, watch_reaction, write_reaction};
 
 use crate::addressing::{write_addr, write_data};
 use crate::erring::{
@@ -19,10 +19,11 @@ use crate::erring::{
     root_errors,
 };
 use crate::read::why_not_written;
+use acme_watch::WatchFile;
 use am_text::{Bytes, Items, NoMemory, Part, Runes, decode_part};
 use core_fids::{
-    Answer, Content, Demand, Effect, EventChange, Fault, Reaction, Refusal, Server, at_most_three,
-    content_of, emptied_fid, fid_with_part, held_with, port_names,
+    Answer, Content, Demand, Effect, EventChange, Fault, Reaction, Refusal, Server, WatchOpening,
+    at_most_three, content_of, emptied_fid, fid_with_part, held_with, port_names, watch_opening,
 };
 use core_windows::{Change, Changes, Windows};
 use fid_table::Fid;
@@ -182,6 +183,36 @@ fn hand(alloc: Global, writing: &Writing, demand: Demand) -> Reaction
     }
 }
 
+// What an answer to a request does, which the opening of `jobs` gives that the fid is.
+#[tactic(auto, using(crate::proofs::Possibly::asked))]
+fn answer(alloc: Global, writing: &Writing) -> Result<Reaction, Fault>
+    requires small { length writing.now.bytes.now < 2 ^ 32 }
+    ensures exact { IfOk result (λ r. answer_reaction (asked_in writing.now) (watch_opening writing.now.fid.now)
+        ≡ Ok r) }
+    ensures refused { IfErr result (λ e. Gives e (answer_reaction (asked_in writing.now)
+        (watch_opening writing.now.fid.now))) }
+    ensures done { IfOk result (λ r. (windows : List (Option Window)) → IsDone windows r) }
+{
+    let Some(WatchOpening { opening, .. }) = watch_opening(writing.fid) else {
+        return Err(Fault::Refused(Refusal::FidIsNotOpen));
+    };
+    let text = Bytes::copied(alloc, writing.bytes)?;
+    let count = writing.bytes.len() as u32;
+    Ok(Reaction::asking(alloc, Demand::Answers { opening, text }, count))
+}
+
+fn write_watch(alloc: Global, writing: &Writing, file: WatchFile) -> Result<Reaction, Fault>
+    requires small { length writing.now.bytes.now < 2 ^ 32 }
+    ensures exact { IfOk result (λ r. watch_reaction (asked_in writing.now) writing.now.fid.now file ≡ Ok r) }
+    ensures refused { IfErr result (λ e. Gives e (watch_reaction (asked_in writing.now) writing.now.fid.now file)) }
+    ensures done { IfOk result (λ r. (windows : List (Option Window)) → IsDone windows r) }
+{
+    match file {
+        WatchFile::Log => Err(Fault::Refused(Refusal::PermissionDenied)),
+        WatchFile::Jobs => answer(alloc, writing),
+    }
+}
+
 #[tactic(auto, using(crate::proofs::Possibly::made))]
 fn write_content(alloc: Global, windows: &Windows, writing: &Writing) -> Result<Reaction, Fault>
     requires { length writing.now.bytes.now < 2 ^ 32 }
@@ -243,6 +274,7 @@ fn write_content(alloc: Global, windows: &Windows, writing: &Writing) -> Result<
             Ok(hand(alloc, writing, Demand::AddsRules { text }))
         }
         Content::PortOf(_) => Err(Fault::Refused(Refusal::PermissionDenied)),
+        Content::WatchOf(file) => write_watch(alloc, writing, file),
     }
 }
 

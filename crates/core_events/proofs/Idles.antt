@@ -284,6 +284,7 @@ module _ (deleted : List ℕ) (at : ℕ) where
         | false ↦ b
       ]
   open_idle s (events.Joins port) b = b
+  open_idle s (events.Watches file) b = b
   open_idle s (events.Cancels tag) b = b
 
   answer_idle : (s : BookState) (a : Asker) → is_living s a.opening ≡ true → AreIdle deleted at s
@@ -420,6 +421,7 @@ module _ (deleted : List ℕ) (at : ℕ) where
   cancelled_idle s conn events.Nothing b = b
   cancelled_idle s conn (events.Opens w) b = b
   cancelled_idle s conn (events.Joins port) b = b
+  cancelled_idle s conn (events.Watches file) b = b
   cancelled_idle s conn (events.Cancels tag) b = record {
     lawful = lawful-cancel s conn tag b.lawful;
     latest = b.latest;

@@ -148,6 +148,7 @@ pub idle_cancelled : (s : PortsState) (conn : ℕ) (e : EventChange) → ArePort
 idle_cancelled s conn events.Nothing h = h
 idle_cancelled s conn (events.Opens w) h = h
 idle_cancelled s conn (events.Joins port) h = h
+idle_cancelled s conn (events.Watches file) h = h
 idle_cancelled s conn (events.Cancels tag) h =
     none_ready s.openings (filter (λ r. not (is_read conn tag r)) s.reads)
     (all_filter (waits_in s.openings) (waits_in s.openings) (λ r. not (is_read conn tag r)) s.reads

@@ -108,6 +108,7 @@ sound_joined s (events.Joins port) h =
       | true ↦ sound_join s port h
       | false ↦ h
     ]
+sound_joined s (events.Watches file) h = h
 sound_joined s (events.Cancels tag) h = h
 
 pub sound_leave : (s : PortsState) (opening : ℕ) → ArePortsSound s → ArePortsSound (after_leave s opening)
@@ -140,6 +141,7 @@ pub sound_cancelled : (s : PortsState) (conn : ℕ) (e : EventChange) → ArePor
 sound_cancelled s conn events.Nothing h = h
 sound_cancelled s conn (events.Opens w) h = h
 sound_cancelled s conn (events.Joins port) h = h
+sound_cancelled s conn (events.Watches file) h = h
 sound_cancelled s conn (events.Cancels tag) h = record {
   small = all-filter is_small (λ r. not (is_read conn tag r))
       s.reads h.small;

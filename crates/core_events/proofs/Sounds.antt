@@ -90,6 +90,7 @@ pub sound_cancelled : (at : ℕ) (s : BookState) (conn : ℕ) (e : EventChange) 
 sound_cancelled at s conn events.Nothing sound = sound
 sound_cancelled at s conn (events.Opens w) sound = sound
 sound_cancelled at s conn (events.Joins port) sound = sound
+sound_cancelled at s conn (events.Watches file) sound = sound
 sound_cancelled at s conn (events.Cancels tag) sound =
     record { latest = sound.latest; small = all-filter is_small (λ r. not (is_read conn tag r)) s.reads sound.small }
 

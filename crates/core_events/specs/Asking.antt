@@ -20,6 +20,7 @@ abbrev pub opened : BookState → EventChange → BookState
 opened book events.Nothing = book
 opened book (events.Opens w) = if nat_lt (length book.owners) max_openings then after_add book w else book
 opened book (events.Joins port) = book
+opened book (events.Watches file) = book
 opened book (events.Cancels tag) = book
 
 -- a connection can't have more waiting reads

@@ -53,6 +53,7 @@ abbrev pub cancelled : BookState → ℕ → EventChange → BookState
 cancelled book conn events.Nothing = book
 cancelled book conn (events.Opens w) = book
 cancelled book conn (events.Joins port) = book
+cancelled book conn (events.Watches file) = book
 cancelled book conn (events.Cancels tag) = after_cancel book conn tag
 
 -- the event files of windows that are deleted close, one after another

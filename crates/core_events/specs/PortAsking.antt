@@ -32,6 +32,7 @@ joined_with ports events.Nothing = ports
 joined_with ports (events.Opens w) = ports
 joined_with ports (events.Joins port) = if can_join ports port then after_join ports port (next_opening ports) else
     ports
+joined_with ports (events.Watches file) = ports
 joined_with ports (events.Cancels tag) = ports
 
 -- ---- a read

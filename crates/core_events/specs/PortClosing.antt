@@ -45,4 +45,5 @@ abbrev pub ports_cancelled : PortsState → ℕ → EventChange → PortsState
 ports_cancelled ports conn events.Nothing = ports
 ports_cancelled ports conn (events.Opens w) = ports
 ports_cancelled ports conn (events.Joins port) = ports
+ports_cancelled ports conn (events.Watches file) = ports
 ports_cancelled ports conn (events.Cancels tag) = after_cancel ports conn tag

@@ -69,4 +69,5 @@ abbrev pub without_cancelled : Tables → ℕ → EventChange → Tables
 without_cancelled tables conn events.Nothing = tables
 without_cancelled tables conn (events.Opens w) = tables
 without_cancelled tables conn (events.Joins port) = tables
+without_cancelled tables conn (events.Watches file) = tables
 without_cancelled tables conn (events.Cancels tag) = after_done tables conn tag

@@ -51,6 +51,7 @@ pub fn open_events(book: &mut Book, events: EventChange) -> Result<(), NoMemory>
         }
         EventChange::Nothing => Ok(()),
         EventChange::Joins { .. } => Ok(()),
+        EventChange::Watches { .. } => Ok(()),
         EventChange::Cancels { .. } => Ok(()),
     }
 }

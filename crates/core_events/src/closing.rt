@@ -110,6 +110,7 @@ pub fn cancel_read(book: &mut Book, conn: u32, events: EventChange)
         EventChange::Nothing => {}
         EventChange::Opens { .. } => {}
         EventChange::Joins { .. } => {}
+        EventChange::Watches { .. } => {}
     }
 }
 

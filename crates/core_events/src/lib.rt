@@ -22,6 +22,8 @@ pub use port_asking::{open_port, read_port};
 pub use port_closing::{cancel_port_read, free_port_fids, free_port_openings};
 pub use port_serving::serve_ports;
 pub use putting::{put_all, put_living};
-pub use response::{Feed, FeedKind, Response, Responses, event_feed, joined, port_feed};
+pub use response::{
+    Feed, FeedKind, Response, Responses, event_feed, joined, port_feed, watch_feed,
+};
 pub use serving::serve_all;
 pub use waits::{clunked, deletions, end_reads, forget_cancelled};

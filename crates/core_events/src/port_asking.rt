@@ -39,6 +39,7 @@ pub fn open_port(ports: &mut Ports, events: EventChange) -> Result<(), NoMemory>
         }
         EventChange::Nothing => Ok(()),
         EventChange::Opens { .. } => Ok(()),
+        EventChange::Watches { .. } => Ok(()),
         EventChange::Cancels { .. } => Ok(()),
     }
 }

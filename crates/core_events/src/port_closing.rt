@@ -88,5 +88,6 @@ pub fn cancel_port_read(ports: &mut Ports, conn: u32, events: EventChange)
         EventChange::Nothing => {}
         EventChange::Opens { .. } => {}
         EventChange::Joins { .. } => {}
+        EventChange::Watches { .. } => {}
     }
 }

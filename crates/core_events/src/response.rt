@@ -1,10 +1,10 @@
 //! What is said to connections.
 
 ghost use Rattle.std.specs.Prelude.{◌≡◌, ◌++◌, option_copied, IfOk};
-ghost use Rattle.core_events.specs.Responses.{AreSaid, event_feed, port_feed, feed_in};
+ghost use Rattle.core_events.specs.Responses.{AreSaid, event_feed, port_feed, watch_kind, watch_feed, feed_in};
 
 use am_text::{Items, NoMemory};
-use core_fids::{event_opening, port_opening};
+use core_fids::{WatchFile, WatchOpening, event_opening, port_opening, watch_opening};
 use fid_table::Fid;
 use ninep_types::RMsg;
 
@@ -15,6 +15,10 @@ pub enum FeedKind {
     Events,
     /// The messages that are delivered to a port.
     Port,
+    /// The lines of `log`.
+    Log,
+    /// The requests of `jobs`.
+    Jobs,
 }
 
 /// What a read that may wait reads: one opening of a file of this kind.
@@ -24,8 +28,8 @@ pub struct Feed {
     pub opening: u32,
 }
 
-/// What is said to a connection in answer to the message that has the same tag; and where that message read an event
-/// file or a port, what it read.
+/// What is said to a connection in answer to the message that has the same tag; and where that message read a
+/// file whose reads may wait, what it read.
 #[derive(Drop)]
 pub struct Response {
     pub conn: u32,
@@ -56,6 +60,26 @@ pub fn port_feed(opening: u32) -> Feed
     }
 }
 
+// What an opening of this file gives.
+fn watch_kind(file: WatchFile) -> FeedKind
+    ensures { result ≡ watch_kind file }
+{
+    match file {
+        WatchFile::Log => FeedKind::Log,
+        WatchFile::Jobs => FeedKind::Jobs,
+    }
+}
+
+/// An opening of `log` or of `jobs`.
+pub fn watch_feed(opening: WatchOpening) -> Feed
+    ensures { result ≡ watch_feed opening }
+{
+    Feed {
+        kind: watch_kind(opening.file),
+        opening: opening.opening,
+    }
+}
+
 /// What reads of a fid read, where they may wait.
 pub(crate) fn feed_in(fid: Option<&Fid>) -> Option<Feed>
     ensures { result ≡ feed_in (option_copied fid.entry) }
@@ -64,8 +88,11 @@ pub(crate) fn feed_in(fid: Option<&Fid>) -> Option<Feed>
     if let Some(opening) = event_opening(fid) {
         return Some(event_feed(opening));
     }
-    match port_opening(fid) {
-        Some(opening) => Some(port_feed(opening)),
+    if let Some(opening) = port_opening(fid) {
+        return Some(port_feed(opening));
+    }
+    match watch_opening(fid) {
+        Some(opening) => Some(watch_feed(opening)),
         None => None,
     }
 }

@@ -208,5 +208,6 @@ pub fn forget_cancelled(sessions: &mut Sessions, conn: u32, events: EventChange)
         EventChange::Nothing => {}
         EventChange::Opens { .. } => {}
         EventChange::Joins { .. } => {}
+        EventChange::Watches { .. } => {}
     }
 }

@@ -72,6 +72,9 @@ text_is refusal.PortQueueFull = refl
 text_is refusal.BadRule = refl
 text_is refusal.BadExpressionSize = refl
 text_is refusal.TooManyRules = refl
+text_is refusal.BadAnswer = refl
+text_is refusal.RequestAlreadyAnswered = refl
+text_is refusal.NoSuchRequest = refl
 
 text_fits : (x : Refusal) → length (refusal_text x) < 100
 text_fits refusal.VersionFirst = omega arith
@@ -114,6 +117,9 @@ text_fits refusal.PortQueueFull = omega arith
 text_fits refusal.BadRule = omega arith
 text_fits refusal.BadExpressionSize = omega arith
 text_fits refusal.TooManyRules = omega arith
+text_fits refusal.BadAnswer = omega arith
+text_fits refusal.RequestAlreadyAnswered = omega arith
+text_fits refusal.NoSuchRequest = omega arith
 
 error_is : (x : Refusal) → IsSent (r.Error (refusal_text x))
 error_is x = record {

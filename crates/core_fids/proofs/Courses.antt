@@ -65,6 +65,8 @@ may_below world ports node.PlumbRoot name last = may_entry world (entry_named wo
 may_below world ports node.Send name last = may_entry world (entry_named world ports node.Send name)
 may_below world ports node.Rules name last = may_entry world (entry_named world ports node.Rules name)
 may_below world ports (node.Port k) name last = may_entry world (entry_named world ports (node.Port k) name)
+may_below world ports node.Log name last = may_entry world (entry_named world ports node.Log name)
+may_below world ports node.Jobs name last = may_entry world (entry_named world ports node.Jobs name)
 
 may_either : (world : World) (t : Bool) (a b : Step) → MayStep world a → MayStep world b → MayStep world (cond t a b)
 may_either world true a b h k = h

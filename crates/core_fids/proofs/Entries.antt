@@ -1,13 +1,13 @@
 -- The entries of directories, one by one.
 use Rattle.std.proofs.Common.{◌≡◌, ℕ, zero, suc, ◌+◌, ◌-◌, ◌<◌, ◌≤◌, ◌^◌, List, [], ◌∷◌, ◌++◌, length, take, min, Some}
-use Rattle.std.proofs.Common.{None, refl, sym, ap, ◌∙◌, arith}
+use Rattle.std.proofs.Common.{None, Bool, refl, sym, ap, ◌∙◌, arith}
 use Rattle.std.specs.Prelude.{slice_get}
 use Rattle.std.proofs.lemmas.List.{length-take}
 use Rattle.std.proofs.lemmas.Option.{slice_get_past, slice_get-map}
 use Rattle.acme_tree.specs.declared.node.Node.{Node}
 use Rattle.acme_tree.specs.declared.node.Node.TheVariants.{Port}
-use Rattle.acme_tree.specs.Trees.{ports_from}
-use Rattle.core_fids.specs.Directories.{root_front, plumber_front}
+use Rattle.acme_tree.specs.Trees.{ports_from, root_front}
+use Rattle.core_fids.specs.Directories.{plumber_front}
 
 -- ---- a front, and what follows it
 
@@ -24,11 +24,15 @@ behind (n ∷ front) rest (suc k) h =
     let e : suc k - suc (length front) ≡ k - length front = omega arith in
     ap (slice_get rest) e ∙ behind front rest k (omega (arith, h))
 
-pub root_fixed : (rest : List Node) (k : ℕ) → k < 5 → slice_get root_front k ≡ slice_get (root_front ++ rest) k
-root_fixed rest k h = in_front root_front rest k (omega (arith, h))
+pub root_fixed : (watched : Bool) (rest : List Node) (k fixed : ℕ) → fixed ≡ length (root_front watched) → k < fixed
+    → slice_get (root_front watched) k ≡ slice_get (root_front watched ++ rest) k
+root_fixed watched rest k fixed e h = in_front (root_front watched) rest k (omega (arith, e, h))
 
-pub root_behind : (rest : List Node) (k : ℕ) → 5 ≤ k → slice_get rest (k - 5) ≡ slice_get (root_front ++ rest) k
-root_behind rest k h = behind root_front rest k (omega (arith, h))
+pub root_behind : (watched : Bool) (rest : List Node) (k fixed : ℕ) → fixed ≡ length (root_front watched) → fixed ≤ k
+    → slice_get rest (k - fixed) ≡ slice_get (root_front watched ++ rest) k
+root_behind watched rest k fixed e h =
+    let same : k - fixed ≡ k - length (root_front watched) = omega (arith, e) in
+    ap (slice_get rest) same ∙ behind (root_front watched) rest k (omega (arith, e, h))
 
 pub plumber_fixed : (rest : List Node) (k : ℕ) → k < 2 → slice_get plumber_front k ≡ slice_get (plumber_front ++ rest) k
 plumber_fixed rest k h = in_front plumber_front rest k (omega (arith, h))

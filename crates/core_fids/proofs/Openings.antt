@@ -15,7 +15,7 @@ use Rattle.core_windows.specs.declared.change.Change.TheVariants as change
 use Rattle.core_windows.specs.declared.change.Setting.{Setting}
 use Rattle.core_windows.specs.declared.change.Setting.TheVariants as setting
 use Rattle.core_windows.specs.Possible.{CanSet, text_in}
-use Rattle.core_windows.specs.Windows.{Window, window_at, world_of}
+use Rattle.core_windows.specs.Windows.{Window, window_at, world_with}
 use Rattle.core_windows.proofs.Steps.{listed_lives}
 use Rattle.core_fids.specs.declared.content.Content.{Content}
 use Rattle.core_fids.specs.declared.content.Content.TheVariants as content
@@ -55,6 +55,7 @@ opens windows tables (content.EventsOf w) h at = tt
 opens windows tables content.SendText h at = tt
 opens windows tables content.RulesText h at = tt
 opens windows tables (content.PortOf k) h at = tt
+opens windows tables (content.WatchOf f) h at = tt
 
 file_lives : (windows : List (Option Window)) (w : ℕ) (f : WinFile) → IsSome (window_at windows w)
     → LivesIn windows (content_of (node.File w f))
@@ -67,20 +68,22 @@ file_lives windows w file.Event h = h
 file_lives windows w file.Tag h = h
 file_lives windows w file.Xdata h = h
 
-node_lives : (windows : List (Option Window)) (ports : List (List ℕ)) (n : Node)
-    → is_live (world_of windows) ports n ≡ true → LivesIn windows (content_of n)
-node_lives windows ports node.Root h = tt
-node_lives windows ports node.Cons h = tt
-node_lives windows ports node.ConsCtl h = tt
-node_lives windows ports node.Index h = tt
-node_lives windows ports node.Label h = tt
-node_lives windows ports node.NewDir h = tt
-node_lives windows ports (node.Window w) h = tt
-node_lives windows ports (node.File w f) h = file_lives windows w f (listed_lives windows w h)
-node_lives windows ports node.PlumbRoot h = tt
-node_lives windows ports node.Send h = tt
-node_lives windows ports node.Rules h = tt
-node_lives windows ports (node.Port k) h = tt
+node_lives : (watched : Bool) (windows : List (Option Window)) (ports : List (List ℕ)) (n : Node)
+    → is_live (world_with watched windows) ports n ≡ true → LivesIn windows (content_of n)
+node_lives watched windows ports node.Root h = tt
+node_lives watched windows ports node.Cons h = tt
+node_lives watched windows ports node.ConsCtl h = tt
+node_lives watched windows ports node.Index h = tt
+node_lives watched windows ports node.Label h = tt
+node_lives watched windows ports node.NewDir h = tt
+node_lives watched windows ports (node.Window w) h = tt
+node_lives watched windows ports (node.File w f) h = file_lives windows w f (listed_lives windows w h)
+node_lives watched windows ports node.PlumbRoot h = tt
+node_lives watched windows ports node.Send h = tt
+node_lives watched windows ports node.Rules h = tt
+node_lives watched windows ports (node.Port k) h = tt
+node_lives watched windows ports node.Log h = tt
+node_lives watched windows ports node.Jobs h = tt
 
 not_dead : (b : Bool) (later : Option Refusal) → cond (not b) (Some refusal.WindowDeleted) later ≡ None → b ≡ true
 not_dead true later e = refl
@@ -93,8 +96,8 @@ pub opens_possible : (server : ServerState) (mode : ℕ) (fid : Fid) (cs : List 
 opens_possible server mode fid cs h e =
     let live : is_live (world_by server) server.plumber.names fid.node ≡ true = not_dead _ _ h in
     subst (CanBeMade server.windows) (sym e)
-    (opens server.windows server.tables (content_of fid.node) (node_lives server.windows server.plumber.names fid.node
-    live))
+    (opens server.windows server.tables (content_of fid.node) (node_lives server.watched server.windows
+    server.plumber.names fid.node live))
 
 -- what it asks of the scene it asks of no window
 asks_none : (windows : List (Option Window)) (empties : Bool) (c : Content)
@@ -114,6 +117,7 @@ asks_none windows true (content.EventsOf w) = tt
 asks_none windows true content.SendText = tt
 asks_none windows true content.RulesText = tt
 asks_none windows true (content.PortOf k) = tt
+asks_none windows true (content.WatchOf f) = tt
 asks_none windows false c = tt
 
 pub opening_asks : (windows : List (Option Window)) (empties : Bool) (c : Content) (d : Demand)

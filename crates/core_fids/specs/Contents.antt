@@ -2,9 +2,10 @@
 use Rattle.std.specs.Prelude.{ℕ}
 use Rattle.acme_tree.specs.declared.node.Node.{Node}
 use Rattle.acme_tree.specs.declared.node.Node.TheVariants.{Root, Cons, ConsCtl, Index, Label, NewDir, Window, File}
-use Rattle.acme_tree.specs.declared.node.Node.TheVariants.{PlumbRoot, Send, Rules, Port}
+use Rattle.acme_tree.specs.declared.node.Node.TheVariants.{PlumbRoot, Send, Rules, Port, Log, Jobs}
 use Rattle.acme_tree.specs.declared.node.WinFile.{WinFile}
 use Rattle.acme_tree.specs.declared.node.WinFile.TheVariants.{Addr, Body, Ctl, Data, Errors, Event, Tag, Xdata}
+use Rattle.acme_watch.specs.declared.types.WatchFile.TheVariants as watch
 use Rattle.core_fids.specs.declared.content.Content.{Content}
 use Rattle.core_fids.specs.declared.content.Content.TheVariants as content
 
@@ -33,3 +34,5 @@ content_of PlumbRoot = content.Directory
 content_of Send = content.SendText
 content_of Rules = content.RulesText
 content_of (Port k) = content.PortOf k
+content_of Log = content.WatchOf watch.Log
+content_of Jobs = content.WatchOf watch.Jobs

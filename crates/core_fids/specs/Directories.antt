@@ -7,7 +7,7 @@ use Rattle.ninep_frame.specs.Records.{record_of}
 use Rattle.ninep_frame.specs.Directories.{records, fitting}
 use Rattle.acme_tree.specs.Trees.{is_live, stat_of, entries}
 use Rattle.acme_tree.specs.declared.node.Node.{Node}
-use Rattle.acme_tree.specs.declared.node.Node.TheVariants.{Cons, ConsCtl, Index, Label, NewDir, Send, Rules}
+use Rattle.acme_tree.specs.declared.node.Node.TheVariants.{Send, Rules}
 use Rattle.acme_tree.specs.declared.node.World.{World}
 use Rattle.fid_table.specs.declared.types.Fid.{Fid}
 use Rattle.core_fids.specs.declared.effect.Effect.TheVariants as effect
@@ -33,10 +33,6 @@ asked_in reading = record { number = reading.number; offset = reading.offset; co
 -- where the last read ended
 abbrev pub place_at : Fid → ℕ → Option ℕ
 place_at fid offset = if offset == 0 then Some 0 else (if offset == fid.given then Some fid.skip else None)
-
--- what is always listed first
-abbrev pub root_front : List Node
-root_front = Cons ∷ ConsCtl ∷ Index ∷ Label ∷ NewDir ∷ []
 
 -- what the plumber's root lists before its ports
 abbrev pub plumber_front : List Node

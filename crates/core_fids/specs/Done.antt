@@ -12,7 +12,7 @@ use Rattle.ninep_types.specs.Limits.{rread_head}
 use Rattle.core_fids.specs.declared.content.Content.{Content}
 use Rattle.core_fids.specs.declared.content.Content.TheVariants as content
 use Rattle.core_fids.specs.declared.effect.Answer.{Answer}
-use Rattle.core_fids.specs.declared.effect.Answer.TheVariants.{Says, Reads, ReadsPort}
+use Rattle.core_fids.specs.declared.effect.Answer.TheVariants.{Says, Reads, ReadsPort, ReadsWatch}
 use Rattle.core_fids.specs.declared.effect.Demand.{Demand}
 use Rattle.core_fids.specs.declared.effect.Demand.TheVariants as demand
 use Rattle.core_fids.specs.declared.effect.Reaction.{Reaction}
@@ -29,12 +29,13 @@ abbrev pub HasSpelling : Answer → Type 0
 HasSpelling (Says body) = IsSent body
 HasSpelling (Reads fid opening count) = count + rread_head < 2 ^ 32
 HasSpelling (ReadsPort fid opening count) = count + rread_head < 2 ^ 32
+HasSpelling (ReadsWatch fid opening count) = count + rread_head < 2 ^ 32
 
 -- these changes can be made one after the other, by whichever step
 abbrev pub CanBeMade : List (Option Window) → List Change → Type 0
 CanBeMade windows changes = (at : ℕ) → CanChangeAll at windows changes
 
--- what is asked of a window is asked of one that lives; what is asked of the plumber may always be
+-- what is asked of a window is asked of one that lives; what is asked of the plumber or of `jobs` may always be
 abbrev pub IsOfLiving : List (Option Window) → Demand → Type 0
 IsOfLiving windows demand.Nothing = Unit {0}
 IsOfLiving windows (demand.Controls w text) = IsSome (window_at windows w)
@@ -43,6 +44,7 @@ IsOfLiving windows demand.ClearsRules = Unit {0}
 IsOfLiving windows (demand.AddsRules text) = Unit {0}
 IsOfLiving windows (demand.AddsRest text) = Unit {0}
 IsOfLiving windows (demand.Sends text) = Unit {0}
+IsOfLiving windows (demand.Answers opening text) = Unit {0}
 
 -- what changes no window and asks nothing of the scene, and has an answer with a spelling
 pub record IsStill (reaction : Reaction) : Type 0 where
@@ -79,3 +81,4 @@ LivesIn windows (content.EventsOf w) = IsSome (window_at windows w)
 LivesIn windows content.SendText = Unit {0}
 LivesIn windows content.RulesText = Unit {0}
 LivesIn windows (content.PortOf k) = Unit {0}
+LivesIn windows (content.WatchOf file) = Unit {0}

@@ -4,12 +4,15 @@ use Rattle.std.specs.Prelude.{Option, Some, None}
 use Rattle.am_text.specs.Part.{part_of}
 use Rattle.am_text.specs.declared.part.Part.{Part}
 use Rattle.acme_tree.specs.declared.node.Node.{Node}
-use Rattle.acme_tree.specs.declared.node.Node.TheVariants.{File, Rules, Port}
+use Rattle.acme_tree.specs.declared.node.Node.TheVariants.{File, Rules, Port, Log, Jobs}
 use Rattle.acme_tree.specs.declared.node.WinFile.TheVariants.{Event}
 use Rattle.acme_tree.specs.Access.{how}
+use Rattle.acme_watch.specs.declared.types.WatchFile.{WatchFile}
+use Rattle.acme_watch.specs.declared.types.WatchFile.TheVariants as watch
 use Rattle.fid_table.specs.declared.types.Fid.{Fid}
 use Rattle.fid_table.specs.Tables.{Tables, fids_of, fid_of}
 use Rattle.core_fids.specs.Limits.{max_fids}
+use Rattle.core_fids.specs.declared.effect.WatchOpening.{WatchOpening}
 
 -- whether there is one
 abbrev pub is_there : {A : Type 0} → Option A → Bool
@@ -40,7 +43,7 @@ is_for_reading mode = not (how mode == 1)
 abbrev pub is_for_writing : ℕ → Bool
 is_for_writing mode = not (how mode == 0)
 
--- An opening is of an event file or of a port: the node says which.
+-- An opening is of an event file, of a port, of `log` or of `jobs`: the node says which.
 abbrev pub at_event : Node → Option ℕ → Option ℕ
 at_event (File w Event) opening = opening
 at_event node opening = None
@@ -50,6 +53,17 @@ abbrev pub at_port : Node → Option ℕ → Option ℕ
 at_port (Port k) opening = opening
 at_port node opening = None
 
+-- an opening of this file, if there is one
+abbrev pub opening_on : WatchFile → Option ℕ → Option WatchOpening
+opening_on file None = None
+opening_on file (Some opening) = Some (record { file = file; opening = opening })
+
+-- the opening of `log` or of `jobs`
+abbrev pub at_watch : Node → Option ℕ → Option WatchOpening
+at_watch Log opening = opening_on watch.Log opening
+at_watch Jobs opening = opening_on watch.Jobs opening
+at_watch node opening = None
+
 -- the opening of an event file that the fid is
 abbrev pub event_opening : Fid → Option ℕ
 event_opening fid = at_event fid.node fid.opening
@@ -58,7 +72,11 @@ event_opening fid = at_event fid.node fid.opening
 abbrev pub port_opening : Fid → Option ℕ
 port_opening fid = at_port fid.node fid.opening
 
--- opened with a mode, and where it is an opening of an event file or of a port, with its number
+-- the opening of `log` or of `jobs` that the fid is
+abbrev pub watch_opening : Fid → Option WatchOpening
+watch_opening fid = at_watch fid.node fid.opening
+
+-- opened with a mode, and where it is an opening of a file whose reads wait, with its number
 abbrev pub opened_fid : Fid → ℕ → Option ℕ → Fid
 opened_fid fid mode opening = record fid { mode = Some mode; opening = opening }
 

@@ -20,6 +20,7 @@ use Rattle.core_windows.specs.declared.change.Setting.{Setting}
 use Rattle.core_windows.specs.declared.change.Setting.TheVariants as setting
 use Rattle.am_journal.specs.Limits.{connection_count}
 use Rattle.wait_queue.specs.Limits.{max_openings}
+use Rattle.acme_watch.specs.Laws.{count_of}
 use Rattle.core_fids.specs.declared.effect.Effect.TheVariants as effect
 use Rattle.core_fids.specs.declared.effect.Demand.{Demand}
 use Rattle.core_fids.specs.declared.effect.Demand.TheVariants as demand
@@ -32,6 +33,7 @@ use Rattle.core_fids.specs.declared.refusal.Refusal.{Refusal}
 use Rattle.core_fids.specs.declared.refusal.Refusal.TheVariants as refusal
 use Rattle.core_fids.specs.declared.content.Content.{Content}
 use Rattle.core_fids.specs.declared.content.Content.TheVariants as content
+use Rattle.core_fids.specs.declared.server.Opened.{Opened}
 use Rattle.core_fids.specs.Contents.{content_of}
 use Rattle.core_fids.specs.Fids.{is_open, opened_fid, holds_rules}
 use Rattle.core_fids.specs.Plumbers.{Plumber}
@@ -46,27 +48,29 @@ mode_refusal may.Yes = None
 mode_refusal may.BadMode = Some refusal.BadOpenMode
 mode_refusal may.Denied = Some refusal.PermissionDenied
 
--- openings of event files are numbered from 1, and those of ports likewise; 4,294,967,295 is the last number of both
+-- openings of event files are numbered from 1, and those of ports, of `log` and of `jobs` likewise; the last number of
+-- each is 4,294,967,295
 abbrev pub opening_refusal : ℕ → Option Refusal
 opening_refusal openings = if nat_lt openings max_openings then None else Some refusal.TooManyOpenings
 
 -- why what a node holds isn't opened once more
-abbrev pub content_refusal : Plumber → ℕ → Content → Option Refusal
-content_refusal plumber openings content.Directory = None
-content_refusal plumber openings (content.BodyText w) = None
-content_refusal plumber openings (content.TagText w) = None
-content_refusal plumber openings (content.AddrText w) = None
-content_refusal plumber openings (content.DataOf w) = None
-content_refusal plumber openings (content.XdataOf w) = None
-content_refusal plumber openings (content.CtlText w) = None
-content_refusal plumber openings content.IndexText = None
-content_refusal plumber openings (content.ErrorsOf w) = None
-content_refusal plumber openings content.ConsErrors = None
-content_refusal plumber openings content.Empty = None
-content_refusal plumber openings (content.EventsOf w) = opening_refusal openings
-content_refusal plumber openings content.SendText = None
-content_refusal plumber openings content.RulesText = None
-content_refusal plumber openings (content.PortOf k) = opening_refusal plumber.joined
+abbrev pub content_refusal : Plumber → Opened → Content → Option Refusal
+content_refusal plumber opened content.Directory = None
+content_refusal plumber opened (content.BodyText w) = None
+content_refusal plumber opened (content.TagText w) = None
+content_refusal plumber opened (content.AddrText w) = None
+content_refusal plumber opened (content.DataOf w) = None
+content_refusal plumber opened (content.XdataOf w) = None
+content_refusal plumber opened (content.CtlText w) = None
+content_refusal plumber opened content.IndexText = None
+content_refusal plumber opened (content.ErrorsOf w) = None
+content_refusal plumber opened content.ConsErrors = None
+content_refusal plumber opened content.Empty = None
+content_refusal plumber opened (content.EventsOf w) = opening_refusal opened.events
+content_refusal plumber opened content.SendText = None
+content_refusal plumber opened content.RulesText = None
+content_refusal plumber opened (content.PortOf k) = opening_refusal plumber.joined
+content_refusal plumber opened (content.WatchOf file) = opening_refusal (count_of opened.watch file)
 
 -- the first of two
 abbrev pub first_refusal : Option Refusal → Option Refusal → Option Refusal
@@ -79,7 +83,7 @@ open_refusal server fid mode =
     if not (is_live (world_by server) server.plumber.names fid.node) then Some refusal.WindowDeleted else
     (if is_open fid then Some refusal.FidIsOpen else
     first_refusal (mode_refusal (may_open fid.node mode))
-    (content_refusal server.plumber server.openings (content_of fid.node)))
+    (content_refusal server.plumber server.opened (content_of fid.node)))
 
 -- whether the node is the `ctl`, or the `addr`, of that window; of no other file this is asked
 abbrev pub is_file_of : ℕ → WinFile → Node → Bool
@@ -130,8 +134,9 @@ opening_changes tables (content.EventsOf w) = []
 opening_changes tables content.SendText = []
 opening_changes tables content.RulesText = []
 opening_changes tables (content.PortOf k) = []
+opening_changes tables (content.WatchOf file) = []
 
--- opening an event file or a port adds an opening of it
+-- opening an event file, a port, `log` or `jobs` adds an opening of it
 abbrev pub opening_events : Content → EventChange
 opening_events content.Directory = events.Nothing
 opening_events (content.BodyText w) = events.Nothing
@@ -148,24 +153,26 @@ opening_events (content.EventsOf w) = events.Opens w
 opening_events content.SendText = events.Nothing
 opening_events content.RulesText = events.Nothing
 opening_events (content.PortOf k) = events.Joins k
+opening_events (content.WatchOf file) = events.Watches file
 
 -- its number is the next one
-abbrev pub opening_of : Plumber → ℕ → Content → Option ℕ
-opening_of plumber openings content.Directory = None
-opening_of plumber openings (content.BodyText w) = None
-opening_of plumber openings (content.TagText w) = None
-opening_of plumber openings (content.AddrText w) = None
-opening_of plumber openings (content.DataOf w) = None
-opening_of plumber openings (content.XdataOf w) = None
-opening_of plumber openings (content.CtlText w) = None
-opening_of plumber openings content.IndexText = None
-opening_of plumber openings (content.ErrorsOf w) = None
-opening_of plumber openings content.ConsErrors = None
-opening_of plumber openings content.Empty = None
-opening_of plumber openings (content.EventsOf w) = Some (openings + 1)
-opening_of plumber openings content.SendText = None
-opening_of plumber openings content.RulesText = None
-opening_of plumber openings (content.PortOf k) = Some (plumber.joined + 1)
+abbrev pub opening_of : Plumber → Opened → Content → Option ℕ
+opening_of plumber opened content.Directory = None
+opening_of plumber opened (content.BodyText w) = None
+opening_of plumber opened (content.TagText w) = None
+opening_of plumber opened (content.AddrText w) = None
+opening_of plumber opened (content.DataOf w) = None
+opening_of plumber opened (content.XdataOf w) = None
+opening_of plumber opened (content.CtlText w) = None
+opening_of plumber opened content.IndexText = None
+opening_of plumber opened (content.ErrorsOf w) = None
+opening_of plumber opened content.ConsErrors = None
+opening_of plumber opened content.Empty = None
+opening_of plumber opened (content.EventsOf w) = Some (opened.events + 1)
+opening_of plumber opened content.SendText = None
+opening_of plumber opened content.RulesText = None
+opening_of plumber opened (content.PortOf k) = Some (plumber.joined + 1)
+opening_of plumber opened (content.WatchOf file) = Some (count_of opened.watch file + 1)
 
 -- opening `rules` to truncate it empties the rules
 abbrev pub opening_demand : Bool → Content → Demand
@@ -176,7 +183,7 @@ opening_demand true c = demand.Nothing
 -- an iounit isn't given
 abbrev pub or_opens : Option Refusal → ServerState → ℕ → Fid → ℕ → Result Reaction Refusal
 or_opens None server number fid mode = Ok (record {
-  effect = effect.Puts number (opened_fid fid mode (opening_of server.plumber server.openings (content_of fid.node)));
+  effect = effect.Puts number (opened_fid fid mode (opening_of server.plumber server.opened (content_of fid.node)));
   events = opening_events (content_of fid.node);
   changes = opening_changes server.tables (content_of fid.node);
   demand = opening_demand (truncates mode) (content_of fid.node);

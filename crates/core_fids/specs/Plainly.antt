@@ -11,7 +11,7 @@ use Rattle.core_fids.specs.declared.effect.EventChange.TheVariants as events
 use Rattle.core_fids.specs.declared.effect.Answer.TheVariants.{Says}
 use Rattle.core_fids.specs.declared.effect.Reaction.{Reaction}
 
--- what has nothing to do with event files and ports
+-- what has nothing to do with files whose reads wait
 abbrev pub does : Effect → List Change → RBody → Reaction
 does f changes body = record {
   effect = f;

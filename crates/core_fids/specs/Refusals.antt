@@ -52,6 +52,9 @@ refusal_text refusal.PortQueueFull = codes "port queue full"
 refusal_text refusal.BadRule = codes "bad rule"
 refusal_text refusal.BadExpressionSize = codes "bad regular expression size"
 refusal_text refusal.TooManyRules = codes "too many rules"
+refusal_text refusal.BadAnswer = codes "bad answer"
+refusal_text refusal.RequestAlreadyAnswered = codes "request already answered"
+refusal_text refusal.NoSuchRequest = codes "no such request"
 
 -- the reaction of a refusal: its text is answered, and nothing changes but what is said here
 abbrev pub refusal_with_effect : Effect → Refusal → Reaction

@@ -4,6 +4,7 @@ ghost use Rattle.std.specs.Prelude.{◌≡◌};
 ghost use Rattle.core_fids.specs.Contents.{content_of, file_content};
 
 use acme_tree::{Node, WinFile};
+use acme_watch::WatchFile;
 
 /// What a node holds.
 #[derive(Clone, Copy, Debug, PartialEq, Eq)]
@@ -38,6 +39,8 @@ pub enum Content {
     RulesText,
     /// The messages of this port, one after another.
     PortOf(u32),
+    /// What programs may follow in this file: the lines of `log`, or the requests of `jobs`, which are answered there.
+    WatchOf(WatchFile),
 }
 
 fn file_content(window: u32, file: WinFile) -> Content
@@ -72,5 +75,7 @@ pub fn content_of(node: Node) -> Content
         Node::Send => Content::SendText,
         Node::Rules => Content::RulesText,
         Node::Port(port) => Content::PortOf(port),
+        Node::Log => Content::WatchOf(WatchFile::Log),
+        Node::Jobs => Content::WatchOf(WatchFile::Jobs),
     }
 }

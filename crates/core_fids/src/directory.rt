@@ -1,10 +1,11 @@
 //! The records of directories.
 
-ghost use Rattle.std.specs.Prelude.{◌≡◌, ◌+◌, ◌<◌, ◌≤◌, ◌^◌, All, IfOk, IfSome, length, slice_get, map, drop, take};
+ghost use Rattle.std.specs.Prelude.{◌≡◌, ◌+◌, ◌<◌, ◌≤◌, ◌^◌, All, IfOk, IfSome, drop, false, length, map, slice_get};
+ghost use Rattle.std.specs.Prelude.{take, true};
 ghost use Rattle.ninep_frame.specs.Records.{IsName};
 ghost use Rattle.ninep_frame.specs.Directories.{records};
-ghost use Rattle.acme_tree.specs.Trees.{entries, files, plumber_entries, ports_from, root_entries};
-ghost use Rattle.core_fids.specs.Directories.{dir_part, first_record, root_front, plumber_front};
+ghost use Rattle.acme_tree.specs.Trees.{entries, files, plumber_entries, ports_from, root_entries, root_front};
+ghost use Rattle.core_fids.specs.Directories.{dir_part, first_record, plumber_front};
 
 use acme_tree::{Node, WinFile, World, stat_of};
 use am_text::{Bytes, Items, NoMemory};
@@ -39,8 +40,8 @@ fn file_at(window: u32, k: usize) -> Option<Node>
     Some(Node::File(window, file))
 }
 
-fn fixed_in_root(k: usize) -> Option<Node>
-    ensures exact { result ≡ slice_get root_front k }
+fn plain_in_root(k: usize) -> Option<Node>
+    ensures exact { result ≡ slice_get (root_front false) k }
     ensures within { IfSome result (λ n. k < 5) }
 {
     match k {
@@ -53,10 +54,45 @@ fn fixed_in_root(k: usize) -> Option<Node>
     }
 }
 
+fn watched_in_root(k: usize) -> Option<Node>
+    ensures exact { result ≡ slice_get (root_front true) k }
+    ensures within { IfSome result (λ n. k < 7) }
+{
+    match k {
+        0 => Some(Node::Cons),
+        1 => Some(Node::ConsCtl),
+        2 => Some(Node::Index),
+        3 => Some(Node::Jobs),
+        4 => Some(Node::Label),
+        5 => Some(Node::Log),
+        6 => Some(Node::NewDir),
+        _ => None,
+    }
+}
+
+fn fixed_in_root(watched: bool, k: usize) -> Option<Node>
+    ensures exact { result ≡ slice_get (root_front watched) k }
+    ensures within { IfSome result (λ n. k < 7) }
+{
+    if watched {
+        watched_in_root(k)
+    } else {
+        plain_in_root(k)
+    }
+}
+
+// How many nodes the root has before its windows.
+fn fixed_count(watched: bool) -> usize
+    ensures exact { result ≡ length (root_front watched) }
+    ensures few { result ≤ 7 }
+{
+    if watched { 7 } else { 5 }
+}
+
 #[tactic(auto, using(crate::proofs::Entries::placed))]
 fn window_at(windows: &[u32], k: usize) -> Option<Node>
     ensures exact { result ≡ slice_get (map Node.Window windows.now) k }
-    ensures within { IfSome result (λ n. k + 6 < 2 ^ 64) }
+    ensures within { IfSome result (λ n. k + 8 < 2 ^ 64) }
 {
     // law: the windows are fewer than 2^64, known once their number is asked
     let _len = windows.len();
@@ -71,10 +107,11 @@ fn in_root(world: &World, k: usize) -> Option<Node>
     ensures exact { result ≡ slice_get (root_entries world.now) k }
     ensures within { IfSome result (λ n. k + 1 < 2 ^ 64) }
 {
-    if k < 5 {
-        fixed_in_root(k)
+    let fixed = fixed_count(world.watched);
+    if k < fixed {
+        fixed_in_root(world.watched, k)
     } else {
-        window_at(world.windows.as_slice(), k - 5)
+        window_at(world.windows.as_slice(), k - fixed)
     }
 }
 

@@ -3,6 +3,7 @@
 ghost use Rattle.std.specs.Prelude.{◌≡◌};
 ghost use Rattle.core_fids.specs.Plainly.{demands, does, frees};
 
+use acme_watch::WatchFile;
 use am_text::{Bytes, Items};
 use core_windows::Changes;
 use fid_table::{Fid, Held};
@@ -22,7 +23,7 @@ pub enum Effect {
     Frees { number: u32 },
 }
 
-/// What a message does to the openings and the waiting reads of event files and ports.
+/// What a message does to the openings and the waiting reads of event files, ports, `log` and `jobs`.
 #[derive(Clone, Copy, Debug, PartialEq, Eq)]
 pub enum EventChange {
     /// Nothing.
@@ -31,8 +32,17 @@ pub enum EventChange {
     Opens { window: u32 },
     /// The port of this number gets an opening more.
     Joins { port: u32 },
+    /// The file gets an opening more.
+    Watches { file: WatchFile },
     /// The read of the connection that has this tag waits no more.
     Cancels { tag: u16 },
+}
+
+/// An opening of one of the files `log` and `jobs`; those of each file are numbered from 1.
+#[derive(Clone, Copy, Debug, PartialEq, Eq)]
+pub struct WatchOpening {
+    pub file: WatchFile,
+    pub opening: u32,
 }
 
 /// How a message is answered.
@@ -42,9 +52,23 @@ pub enum Answer {
     Says(RBody),
     /// By what is there for this opening of an event file, at most `count` bytes of it: at once, or once something is
     /// there. The read is one of this fid.
-    Reads { fid: u32, opening: u32, count: u32 },
+    Reads {
+        fid: u32,
+        opening: u32,
+        count: u32,
+    },
     /// The same, for this opening of a port.
-    ReadsPort { fid: u32, opening: u32, count: u32 },
+    ReadsPort {
+        fid: u32,
+        opening: u32,
+        count: u32,
+    },
+    /// The same, for this opening of `log` or of `jobs`.
+    ReadsWatch {
+        fid: u32,
+        opening: WatchOpening,
+        count: u32,
+    },
 }
 
 /// What a message asks of the scene beyond changes of the windows.
@@ -64,9 +88,11 @@ pub enum Demand {
     AddsRest { text: Bytes },
     /// The plumb messages that are whole in this text are sent; the fid that is put holds what is left of it.
     Sends { text: Held },
+    /// A request is answered by this text, by this opening of `jobs`.
+    Answers { opening: u32, text: Bytes },
 }
 
-/// What a message does: to its connection, to event files and ports, and to the windows; what it asks of the scene
+/// What a message does: to its connection, to the files whose reads wait, and to the windows; what it asks of the scene
 /// besides; and its answer, which is given where what it asks isn't refused.
 #[derive(Drop)]
 pub struct Reaction {
@@ -78,7 +104,7 @@ pub struct Reaction {
 }
 
 impl Reaction {
-    /// What a message does that has nothing to do with event files and ports, and is answered at once.
+    /// What a message does that has nothing to do with files whose reads wait, and is answered at once.
     pub fn plain(effect: Effect, changes: Changes, body: RBody) -> Reaction
         ensures { result ≡ does effect changes body }
     {

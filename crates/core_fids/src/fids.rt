@@ -6,11 +6,13 @@ ghost use Rattle.core_fids.specs.Limits.{max_fids};
 ghost use Rattle.core_fids.specs.Servers.{tables_in};
 ghost use Rattle.core_fids.specs.Fids.{is_used, fids_full, fresh, is_open, is_for_reading, is_for_writing};
 ghost use Rattle.core_fids.specs.Fids.{event_opening, port_opening, opened_fid, fid_with_part, held_with, emptied_fid};
-ghost use Rattle.core_fids.specs.Fids.{is_rules, holds_rules, placed_fid};
+ghost use Rattle.core_fids.specs.Fids.{is_rules, holds_rules, opening_on, placed_fid, watch_opening};
 
 use crate::directory::DirPart;
+use crate::effect::WatchOpening;
 use crate::server::Server;
 use acme_tree::{Node, WinFile};
+use acme_watch::WatchFile;
 use am_journal::Format;
 use am_text::{NoMemory, Part};
 use fid_table::{Fid, Held};
@@ -112,6 +114,26 @@ pub fn port_opening(fid: &Fid) -> Option<u32>
     }
 }
 
+fn opening_on(file: WatchFile, opening: Option<u32>) -> Option<WatchOpening>
+    ensures { result ≡ opening_on file opening }
+{
+    match opening {
+        Some(opening) => Some(WatchOpening { file, opening }),
+        None => None,
+    }
+}
+
+/// The opening of `log` or of `jobs` that the fid is.
+pub fn watch_opening(fid: &Fid) -> Option<WatchOpening>
+    ensures { result ≡ watch_opening fid.now }
+{
+    match fid.node {
+        Node::Log => opening_on(WatchFile::Log, fid.opening),
+        Node::Jobs => opening_on(WatchFile::Jobs, fid.opening),
+        _ => None,
+    }
+}
+
 /// Whether the fid is one of `rules`, and what was written to it last isn't added yet.
 pub(crate) fn holds_rules(fid: &Fid) -> bool
     ensures { result ≡ holds_rules fid.now }
@@ -134,7 +156,7 @@ pub fn copy(alloc: Global, fid: &Fid) -> Result<Fid, NoMemory>
     })
 }
 
-/// The fid, opened with a mode, and with the number of its opening of an event file or of a port, where it is one.
+/// The fid, opened with a mode, and with the number of its opening of a file whose reads wait, where it is one.
 pub(crate) fn opened_fid(
     alloc: Global,
     fid: &Fid,

@@ -5,6 +5,7 @@ ghost use Rattle.std.specs.List.{list_any};
 ghost use Rattle.std.specs.Option.{option_map};
 ghost use Rattle.std.specs.Prelude.{slice_get};
 ghost use Rattle.fid_table.specs.Tables.{fids_of};
+ghost use Rattle.acme_watch.specs.Laws.{count_of};
 ghost use Rattle.am_journal.specs.Limits.{connection_count};
 ghost use Rattle.core_fids.specs.Servers.{fid_by, plumber_in, server_in, windows_in};
 ghost use Rattle.core_fids.specs.Refusals.{Gives};
@@ -20,6 +21,7 @@ use crate::fids::{is_open, opened_fid};
 use crate::refusal::{Fault, Refusal};
 use crate::server::{Server, port_names};
 use acme_tree::{May, Node, WinFile, is_live, may_open, qid_of, truncates};
+use acme_watch::{OpeningCounts, WatchFile};
 use am_journal::CONNECTIONS;
 use am_text::{Items, NoMemory, Range};
 use core_windows::{Change, Changes, Setting};
@@ -52,8 +54,18 @@ fn opening_refusal(openings: usize) -> Option<Refusal>
     }
 }
 
+// How many openings of the file were ever made.
+fn count_of(counts: OpeningCounts, file: WatchFile) -> u32
+    ensures { result ≡ count_of counts file }
+{
+    match file {
+        WatchFile::Log => counts.log,
+        WatchFile::Jobs => counts.jobs,
+    }
+}
+
 fn content_refusal(server: &Server, content: Content) -> Option<Refusal>
-    ensures { result ≡ content_refusal (plumber_in server.now) server.now.openings content }
+    ensures { result ≡ content_refusal (plumber_in server.now) server.now.opened content }
 {
     match content {
         Content::Directory => None,
@@ -69,8 +81,9 @@ fn content_refusal(server: &Server, content: Content) -> Option<Refusal>
         Content::Empty => None,
         Content::SendText => None,
         Content::RulesText => None,
-        Content::EventsOf(_) => opening_refusal(server.openings),
+        Content::EventsOf(_) => opening_refusal(server.opened.events),
         Content::PortOf(_) => opening_refusal(server.ports.joined() as usize),
+        Content::WatchOf(file) => opening_refusal(count_of(server.opened.watch, file) as usize),
     }
 }
 
@@ -209,6 +222,7 @@ fn opening_changes(
         Content::SendText => Ok(Items::new(alloc)),
         Content::RulesText => Ok(Items::new(alloc)),
         Content::PortOf(_) => Ok(Items::new(alloc)),
+        Content::WatchOf(_) => Ok(Items::new(alloc)),
     }
 }
 
@@ -218,6 +232,7 @@ fn opening_events(content: Content) -> EventChange
     match content {
         Content::EventsOf(window) => EventChange::Opens { window },
         Content::PortOf(port) => EventChange::Joins { port },
+        Content::WatchOf(file) => EventChange::Watches { file },
         Content::Directory => EventChange::Nothing,
         Content::BodyText(_) => EventChange::Nothing,
         Content::TagText(_) => EventChange::Nothing,
@@ -236,12 +251,13 @@ fn opening_events(content: Content) -> EventChange
 
 // The number of the opening that an open of this makes.
 fn opening_of(server: &Server, content: Content) -> Option<u32>
-    requires { content_refusal (plumber_in server.now) server.now.openings content ≡ None }
-    ensures { result ≡ opening_of (plumber_in server.now) server.now.openings content }
+    requires { content_refusal (plumber_in server.now) server.now.opened content ≡ None }
+    ensures { result ≡ opening_of (plumber_in server.now) server.now.opened content }
 {
     match content {
-        Content::EventsOf(_) => Some(server.openings as u32 + 1),
+        Content::EventsOf(_) => Some(server.opened.events as u32 + 1),
         Content::PortOf(_) => Some(server.ports.joined() + 1),
+        Content::WatchOf(file) => Some(count_of(server.opened.watch, file) + 1),
         Content::Directory => None,
         Content::BodyText(_) => None,
         Content::TagText(_) => None,

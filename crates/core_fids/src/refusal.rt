@@ -41,7 +41,7 @@ pub enum Refusal {
     FileNotFound,
     /// No more windows can be made.
     TooManyWindows,
-    /// No more openings of event files, or of ports, can be made.
+    /// No more openings of event files, of ports, of `log` or of `jobs` can be made.
     TooManyOpenings,
     /// The mode has bits that mean nothing.
     BadOpenMode,
@@ -93,6 +93,12 @@ pub enum Refusal {
     BadExpressionSize,
     /// There would be more than 65,536 ports, or more than 262,144 bytes of rules.
     TooManyRules,
+    /// What is written to `jobs` is no answer to a request.
+    BadAnswer,
+    /// The request was answered before.
+    RequestAlreadyAnswered,
+    /// The opening of `jobs` didn't take the request.
+    NoSuchRequest,
 }
 
 /// Why a message isn't done.
@@ -157,6 +163,9 @@ pub(crate) fn refusal_text(refusal: Refusal) -> &'static [u8]
         Refusal::BadRule => b"bad rule",
         Refusal::BadExpressionSize => b"bad regular expression size",
         Refusal::TooManyRules => b"too many rules",
+        Refusal::BadAnswer => b"bad answer",
+        Refusal::RequestAlreadyAnswered => b"request already answered",
+        Refusal::NoSuchRequest => b"no such request",
     }
 }
 

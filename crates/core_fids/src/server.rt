@@ -4,11 +4,19 @@ ghost use Rattle.std.specs.Prelude.{◌≡◌, All};
 ghost use Rattle.ninep_frame.specs.Records.{IsName};
 ghost use Rattle.core_fids.specs.Servers.{plumber_in};
 
+use acme_watch::OpeningCounts;
 use am_text::Bytes;
 use core_stores::RuleStore;
 use core_windows::Windows;
 use fid_table::Sessions;
 use plumb_ports::Ports;
+
+/// How many openings were ever made: of event files, and of `log` and `jobs`.
+#[derive(Clone, Copy, Debug, PartialEq, Eq)]
+pub struct Opened {
+    pub events: usize,
+    pub watch: OpeningCounts,
+}
 
 /// What the messages of a connection are served from.
 #[derive(Clone, Copy)]
@@ -19,8 +27,7 @@ pub struct Server<'a> {
     /// The rules of the plumber, and its ports.
     pub rules: &'a RuleStore,
     pub ports: &'a Ports,
-    /// How many openings of event files were made.
-    pub openings: usize,
+    pub opened: Opened,
     /// The number of the connection.
     pub conn: u32,
 }

@@ -4,8 +4,9 @@ use Rattle.std.proofs.Common.{length, nat_le, nat_lt, fold, Option, Some, None, 
 use Rattle.std.specs.List.{list_all, list_any}
 use Rattle.std.proofs.lemmas.Bool.{eqb-true}
 use Rattle.std.proofs.lemmas.Bool.Decides.{nat_tests}
-use Rattle.fid_table.specs.Tables.{Tables}
-use Rattle.wait_queue.specs.Carry.{is_of, carry_of, without_opening}
+use Rattle.fid_table.specs.declared.types.Fid.{Fid}
+use Rattle.fid_table.specs.Tables.{Tables, fids_of, fid_of}
+use Rattle.wait_queue.specs.Carry.{is_of, carry_of, without_opening as carries_without}
 use Rattle.wait_queue.specs.Reads.{is_on}
 use Rattle.wait_queue.specs.WaitState.{WaitState, nothing, must_wait, any_item, after_enlist, after_piece, after_leave}
 use Rattle.wait_queue.specs.declared.types.Asker.{Asker}
@@ -23,11 +24,24 @@ use Rattle.acme_watch.specs.declared.types.WatchFile.TheVariants.{Log, Jobs}
 use Rattle.acme_watch.specs.declared.types.WatchRead.{WatchRead}
 use Rattle.acme_watch.proofs.EachLemmas.{any_filtered}
 use Rattle.acme_watch.proofs.LogLaws.{same_piece, reader_pushed, any_read, reader_read, reader_other, reader_left}
+use Rattle.acme_watch.specs.declared.types.AnswerFault.{AnswerFault}
+use Rattle.core_fids.specs.Fids.{watch_opening}
+use Rattle.core_fids.specs.declared.effect.Effect.{Effect}
+use Rattle.core_fids.specs.declared.effect.Effect.TheVariants as effect
+use Rattle.core_fids.specs.declared.effect.EventChange.{EventChange}
+use Rattle.core_fids.specs.declared.effect.EventChange.TheVariants as events
+use Rattle.core_fids.specs.declared.effect.WatchOpening.{WatchOpening}
+use Rattle.core_fids.specs.declared.refusal.Refusal.{Refusal}
 use Rattle.core_events.specs.Sound.{is_small}
-use Rattle.core_watch.specs.Asking.{can_open, with_opening, opened}
+use Rattle.core_watch.specs.declared.answering.RequestAnswer.{RequestAnswer}
+use Rattle.core_watch.specs.Answering.{fault_of, written_unless, answer_written, answered_with}
+use Rattle.core_watch.specs.Asking.{can_open, with_opening, opened, opened_with, read_refusal, read_unless, watch_read}
+use Rattle.core_watch.specs.Closing.{left_in, without_opening, without_fid, watch_without_fids, watch_freed}
+use Rattle.core_watch.specs.Closing.{opening_in as opening_of_fid, watch_cancelled}
 use Rattle.core_watch.specs.Sound.{is_proper, IsWatchSound, IsWatchIdle}
 use Rattle.core_watch.proofs.Lists.{second_true, find_still, find_left, find_push, any_before}
 use Rattle.core_watch.proofs.Pieces.{waits_piece}
+use Rattle.core_watch.proofs.Sounds.{sound_without}
 
 -- whether a read of a file can be answered
 abbrev ready : List WaitState → JobsState → WatchFile → Asker → Bool
@@ -114,6 +128,14 @@ idle_opened s file h i =
     elim (can_open s file) as (λ b. IsWatchIdle (cond b (with_opening s file) s))
     [ true ↦ idle_with s file h i | false ↦ i ]
 
+pub idle_opened_with : (s : WatchState) (e : EventChange) → IsWatchSound s → IsWatchIdle s
+    → IsWatchIdle (opened_with s e)
+idle_opened_with s events.Nothing h i = i
+idle_opened_with s (events.Opens w) h i = i
+idle_opened_with s (events.Joins port) h i = i
+idle_opened_with s (events.Watches file) h i = idle_opened s file h i
+idle_opened_with s (events.Cancels tag) h i = i
+
 -- ---- a read
 
 waits_read : (log : List WaitState) (r a : Asker) → list_all is_single log ≡ true
@@ -181,6 +203,14 @@ idle_ask s r at h i = by (read_waits s.log s.jobs r) refl
         subst (λ (b : Bool). IsWatchIdle (cond b waiting (after_answer s r at))) (sym e)
         (idle_given s r.file r.asker at h i)
 
+pub idle_read : (t : Tables) (s : WatchState) (r : WatchRead) (at : ℕ) → IsWatchSound s → IsWatchIdle s
+    → IsWatchIdle (watch_read t s r at)
+idle_read t s r at h i = unless (read_refusal t s r)
+  where
+    unless : (o : Option Refusal) → IsWatchIdle (read_unless o s r at)
+    unless None = idle_ask s r at h i
+    unless (Some refusal) = i
+
 -- ---- what ends
 
 log_left_ready : (log : List WaitState) (jobs : JobsState) (o : ℕ) (file : WatchFile) (a : Asker)
@@ -200,7 +230,7 @@ jobs_left_ready log jobs o at Log a apart h = h
 jobs_left_ready log jobs o at Jobs a apart h =
     let q : WaitState = jobs.queue in
     let other : a.opening ≢ o = grind (arith, nat_tests) in
-    stays_false (list_any (is_of a.opening) q.openings) (list_any (is_of a.opening) (without_opening q.openings o))
+    stays_false (list_any (is_of a.opening) q.openings) (list_any (is_of a.opening) (carries_without q.openings o))
     (must_wait q a) (must_wait (after_leave q o) a)
     (λ k. any_filtered (is_of a.opening) (λ c. not (is_of o c)) q.openings k)
     (λ k m. ap (λ (cs : List ℕ). not (a.count == 0) && not (any_item q || nat_lt 0 (length cs)))
@@ -223,6 +253,42 @@ idle_cancel s conn tag i =
     find_left (can_answer s.log s.jobs) (can_answer s.log s.jobs) (λ r. not (is_asked conn tag r)) s.reads
     (λ r apart k. k) i
 
+pub idle_left : (at : ℕ) (s : WatchState) (file : WatchFile) (opening : ℕ) → IsWatchSound s → IsWatchIdle s
+    → IsWatchIdle (left_in at s file opening)
+idle_left at s Log opening h i = idle_log_left s opening h i
+idle_left at s Jobs opening h i = idle_jobs_left s opening at i
+
+pub idle_without : (at : ℕ) (s : WatchState) (o : Option WatchOpening) → IsWatchSound s → IsWatchIdle s
+    → IsWatchIdle (without_opening at s o)
+idle_without at s None h i = i
+idle_without at s (Some o) h i = idle_left at s o.file o.opening h i
+
+idle_fids : (at : ℕ) (s : WatchState) (fs : List (ℕ × Fid)) → IsWatchSound s → IsWatchIdle s
+    → IsWatchIdle (fold (without_fid at) s fs)
+idle_fids at s [] h i = i
+idle_fids at s (f ∷ fs) h i =
+    idle_fids at (without_fid at s f) fs (sound_without at s (watch_opening f.1) h)
+    (idle_without at s (watch_opening f.1) h i)
+
+pub idle_without_fids : (at : ℕ) (s : WatchState) (t : Tables) (conn : ℕ) → IsWatchSound s → IsWatchIdle s
+    → IsWatchIdle (watch_without_fids at s t conn)
+idle_without_fids at s t conn h i = idle_fids at s (fids_of t conn) h i
+
+pub idle_freed : (at : ℕ) (s : WatchState) (t : Tables) (conn : ℕ) (e : Effect) → IsWatchSound s → IsWatchIdle s
+    → IsWatchIdle (watch_freed at s t conn e)
+idle_freed at s t conn effect.Nothing h i = i
+idle_freed at s t conn (effect.Begins msize) h i = idle_without_fids at s t conn h i
+idle_freed at s t conn (effect.Puts fid value) h i = i
+idle_freed at s t conn (effect.Frees fid) h i = idle_without at s (opening_of_fid (fid_of t conn fid)) h i
+
+pub idle_cancelled : (s : WatchState) (conn : ℕ) (e : EventChange) → IsWatchIdle s
+    → IsWatchIdle (watch_cancelled s conn e)
+idle_cancelled s conn events.Nothing i = i
+idle_cancelled s conn (events.Opens w) i = i
+idle_cancelled s conn (events.Joins port) i = i
+idle_cancelled s conn (events.Watches file) i = i
+idle_cancelled s conn (events.Cancels tag) i = idle_cancel s conn tag i
+
 -- ---- an answer
 
 settled_ready : (log : List WaitState) (jobs : JobsState) (settled : List JobLife) (file : WatchFile) (a : Asker)
@@ -240,6 +306,19 @@ idle_answered s text at h i =
           (λ r p k. settled_ready s.log s.jobs
           (with_life (answered_life at told.good) told.number s.jobs.settled) r.file r.asker k) h.proper i
     ]
+
+pub idle_written : (s : WatchState) (opening : ℕ) (text : List ℕ) (at : ℕ) → IsWatchSound s → IsWatchIdle s
+    → IsWatchIdle (answer_written s opening text at)
+idle_written s opening text at h i = by (fault_of s opening text)
+  where
+    by : (o : Option AnswerFault) → IsWatchIdle (written_unless o s text at)
+    by None = idle_answered s text at h i
+    by (Some fault) = i
+
+pub idle_answered_with : (at : ℕ) (s : WatchState) (answer : Option RequestAnswer) → IsWatchSound s → IsWatchIdle s
+    → IsWatchIdle (answered_with at s answer)
+idle_answered_with at s None h i = i
+idle_answered_with at s (Some a) h i = idle_written s a.opening a.text at h i
 
 pub idle_watching : IsWatchIdle watching
 idle_watching = refl

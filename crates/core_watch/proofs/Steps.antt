@@ -1,24 +1,19 @@
 -- What each function leaves.
-use Rattle.std.proofs.Common.{◌≡◌, ℕ, ◌+◌, ◌<◌, ◌^◌, List, ◌∷◌, Option, Some, None, refl, sym, ap, subst, ◌∙◌}
+use Rattle.std.proofs.Common.{◌≡◌, ℕ, zero, suc, ◌+◌, ◌<◌, ◌^◌, List, [], ◌∷◌, take, slice_get, fold, Option, Some, refl}
+use Rattle.std.proofs.Common.{sym, ap, ap₂, subst, ◌∙◌, arith}
 use Rattle.std.specs.Prelude.{IsTrue}
 use Rattle.am_text.specs.Twice.{Twice, both, IsSteady}
-use Rattle.acme_watch.specs.Lines.{said_of}
-use Rattle.acme_watch.specs.Watching.{WatchState, has_opening, after_ask, after_cancel}
-use Rattle.acme_watch.specs.declared.types.AnswerFault.{AnswerFault}
-use Rattle.acme_watch.specs.declared.types.WatchFile.{WatchFile}
-use Rattle.acme_watch.specs.declared.types.WatchFile.TheVariants.{Log, Jobs}
+use Rattle.fid_table.specs.declared.types.Fid.{Fid}
+use Rattle.acme_watch.specs.Watching.{WatchState, has_opening, after_ask}
 use Rattle.acme_watch.specs.declared.types.WatchRead.{WatchRead}
 use Rattle.core_fids.specs.declared.effect.EventChange.{EventChange}
-use Rattle.core_fids.specs.declared.effect.EventChange.TheVariants as events
-use Rattle.core_watch.specs.declared.response.WatchOpening.{WatchOpening}
-use Rattle.core_watch.specs.Asking.{opened}
-use Rattle.core_watch.specs.Closing.{left_in, without_opening, without_openings, watch_cancelled}
-use Rattle.core_watch.specs.Answering.{fault_of, written_unless, answer_written}
+use Rattle.core_fids.specs.declared.effect.WatchOpening.{WatchOpening}
+use Rattle.core_watch.specs.Closing.{without_opening, without_fid, opening_at, watch_cancelled}
+use Rattle.core_watch.specs.Answering.{answer_written}
 use Rattle.core_watch.specs.Sound.{IsWatchSound, IsWatchIdle}
-use Rattle.core_watch.proofs.Sounds.{sound_watching, sound_line, sound_request, sound_opened, sound_ask}
-use Rattle.core_watch.proofs.Sounds.{sound_log_left, sound_jobs_left, sound_cancel, sound_answered}
-use Rattle.core_watch.proofs.Idles.{idle_watching, idle_opened, idle_ask, idle_log_left, idle_jobs_left, idle_cancel}
-use Rattle.core_watch.proofs.Idles.{idle_answered}
+use Rattle.core_watch.proofs.Sounds.{sound_watching, sound_line, sound_request, sound_ask, sound_cancelled}
+use Rattle.core_watch.proofs.Sounds.{sound_written}
+use Rattle.core_watch.proofs.Idles.{idle_watching, idle_ask, idle_cancelled, idle_written}
 
 pub ruleset beginning = (sound_watching, idle_watching)
 
@@ -42,17 +37,6 @@ sound_both t s e h = subst (λ (u : Twice WatchState). IsWatchSound u.present) (
 pub idle_both : (t : Twice WatchState) (s : WatchState) → t ≡ both s → IsWatchIdle s → IsWatchIdle t.present
 idle_both t s e h = subst (λ (u : Twice WatchState). IsWatchIdle u.present) (sym e) h
 
--- ---- openings
-
-pub opened_sound : (s t : WatchState) (file : WatchFile) → t ≡ opened s file → IsWatchSound s → IsWatchSound t
-opened_sound s t file e h = sound_as (opened s file) t e (sound_opened s file h)
-
-pub opened_idle : (s t : WatchState) (file : WatchFile) → t ≡ opened s file → IsWatchSound s → IsWatchIdle s
-    → IsWatchIdle t
-opened_idle s t file e h i = idle_as (opened s file) t e (idle_opened s file h i)
-
-pub ruleset opening = (opened_sound, opened_idle)
-
 -- ---- a read
 
 pub asked_sound : (s t : WatchState) (r : WatchRead) (at : ℕ) → t ≡ after_ask s r at
@@ -67,51 +51,26 @@ pub ruleset reading = (asked_sound, asked_idle)
 
 -- ---- what ends
 
-sound_left : (at : ℕ) (s : WatchState) (file : WatchFile) (opening : ℕ) → IsWatchSound s
-    → IsWatchSound (left_in at s file opening)
-sound_left at s Log opening h = sound_log_left s opening h
-sound_left at s Jobs opening h = sound_jobs_left s opening at h
+pub ruleset closing = (steady_both)
 
-idle_left : (at : ℕ) (s : WatchState) (file : WatchFile) (opening : ℕ) → IsWatchSound s → IsWatchIdle s
-    → IsWatchIdle (left_in at s file opening)
-idle_left at s Log opening h i = idle_log_left s opening h i
-idle_left at s Jobs opening h i = idle_jobs_left s opening at i
+more_fids : (at : ℕ) (s : WatchState) (fids : List (ℕ × Fid)) (k : ℕ)
+    → fold (without_fid at) s (take (suc k) fids) ≡ without_opening at (fold (without_fid at) s (take k fids))
+    (opening_at (slice_get fids k))
+more_fids at s [] zero = refl
+more_fids at s [] (suc k) = refl
+more_fids at s (f ∷ fids) zero = refl
+more_fids at s (f ∷ fids) (suc k) = more_fids at (without_fid at s f) fids k
 
-pub closed_sound : (at : ℕ) (t : Twice WatchState) (s : WatchState) (o : WatchOpening)
-    → t ≡ both (without_opening at s o) → IsWatchSound s → IsWatchSound t.present
-closed_sound at t s o e h = sound_both t (without_opening at s o) e (sound_left at s o.file o.opening h)
-
-pub closed_idle : (at : ℕ) (t : Twice WatchState) (s : WatchState) (o : WatchOpening)
-    → t ≡ both (without_opening at s o) → IsWatchSound s → IsWatchIdle s → IsWatchIdle t.present
-closed_idle at t s o e h i = idle_both t (without_opening at s o) e (idle_left at s o.file o.opening h i)
-
-pub ruleset closing = (steady_both, closed_sound, closed_idle)
-
-pub still_steady : (t : Twice WatchState) (s : WatchState) → t ≡ both s → t ≡ both t.present
-still_steady t s e = e ∙ ap both (sym (ap (λ (u : Twice WatchState). u.present) e))
-
--- the openings that are left, after one more
-pub closed_more : (at : ℕ) (t u : Twice WatchState) (o : WatchOpening) (rest after : List WatchOpening)
-    (end : WatchState) → u ≡ both (without_opening at t.present o) → rest ≡ o ∷ after
-    → without_openings at t.present rest ≡ end → without_openings at u.present after ≡ end
-closed_more at t u o rest after end e is closed =
-    ap (λ (s : Twice WatchState). without_openings at s.present after) e
-    ∙ ap (λ (os : List WatchOpening). without_openings at t.present os) (sym is) ∙ closed
-
-pub ruleset closings = (steady_both, still_steady, closed_more)
-
-sound_cancelled : (s : WatchState) (conn : ℕ) (e : EventChange) → IsWatchSound s
-    → IsWatchSound (watch_cancelled s conn e)
-sound_cancelled s conn events.Nothing h = h
-sound_cancelled s conn (events.Opens w) h = h
-sound_cancelled s conn (events.Joins port) h = h
-sound_cancelled s conn (events.Cancels tag) h = sound_cancel s conn tag h
-
-idle_cancelled : (s : WatchState) (conn : ℕ) (e : EventChange) → IsWatchIdle s → IsWatchIdle (watch_cancelled s conn e)
-idle_cancelled s conn events.Nothing i = i
-idle_cancelled s conn (events.Opens w) i = i
-idle_cancelled s conn (events.Joins port) i = i
-idle_cancelled s conn (events.Cancels tag) i = idle_cancel s conn tag i
+-- the files so far, and without the opening of the next fid
+pub closed_more : (at : ℕ) (s : WatchState) (fids : List (ℕ × Fid)) (k : ℕ) (watch after : Twice WatchState)
+    (opening : Option WatchOpening) → watch ≡ both (fold (without_fid at) s (take k fids))
+    → opening ≡ opening_at (slice_get fids k) → after ≡ both (without_opening at watch.present opening)
+    → after ≡ both (fold (without_fid at) s (take (k + 1) fids))
+closed_more at s fids k watch after opening e o h =
+    let present : watch.present ≡ fold (without_fid at) s (take k fids) = ap (λ (t : Twice WatchState). t.present) e in
+    let next : k + 1 ≡ suc k = omega arith in
+    h ∙ ap both (ap₂ (without_opening at) present o
+    ∙ sym (ap (λ (n : ℕ). fold (without_fid at) s (take n fids)) next ∙ more_fids at s fids k))
 
 pub cancelled_sound : (t : Twice WatchState) (s : WatchState) (conn : ℕ) (e : EventChange)
     → t ≡ both (watch_cancelled s conn e) → IsWatchSound s → IsWatchSound t.present
@@ -124,22 +83,6 @@ cancelled_idle t s conn e is i = idle_both t (watch_cancelled s conn e) is (idle
 pub ruleset cancelling = (steady_both, cancelled_sound, cancelled_idle)
 
 -- ---- an answer
-
-sound_written : (s : WatchState) (opening : ℕ) (text : List ℕ) (at : ℕ) → IsWatchSound s
-    → IsWatchSound (answer_written s opening text at)
-sound_written s opening text at h = by (fault_of s opening text) refl
-  where
-    by : (o : Option AnswerFault) → fault_of s opening text ≡ o → IsWatchSound (written_unless o s text at)
-    by None e = sound_answered s opening text at e h
-    by (Some fault) e = h
-
-idle_written : (s : WatchState) (opening : ℕ) (text : List ℕ) (at : ℕ) → IsWatchSound s → IsWatchIdle s
-    → IsWatchIdle (answer_written s opening text at)
-idle_written s opening text at h i = by (fault_of s opening text)
-  where
-    by : (o : Option AnswerFault) → IsWatchIdle (written_unless o s text at)
-    by None = idle_answered s text at h i
-    by (Some fault) = i
 
 pub written_sound : (t : Twice WatchState) (s : WatchState) (opening : ℕ) (text : List ℕ) (at : ℕ)
     → t ≡ both (answer_written s opening text at) → IsWatchSound s → IsWatchSound t.present

@@ -1,6 +1,6 @@
 -- Reads that are answered: how many bytes they get, and how many are left.
-use Rattle.std.proofs.Common.{◌≡◌, ℕ, zero, suc, ◌+◌, ◌<◌, ◌≤◌, ◌^◌, true, false, cond, List, [], ◌∷◌}
-use Rattle.std.proofs.Common.{◌++◌, length, Option, Some, None, option_map, refl, sym, ap, append_assoc, ◌∙◌, subst}
+use Rattle.std.proofs.Common.{◌≡◌, ℕ, zero, suc, ◌+◌, ◌<◌, ◌≤◌, ◌^◌, Bool, true, false, cond, List, [], ◌∷◌}
+use Rattle.std.proofs.Common.{◌++◌, length, find, Option, Some, None, option_map, refl, sym, ap, append_assoc, ◌∙◌, subst}
 use Rattle.std.proofs.Common.{arith}
 use Rattle.std.proofs.lemmas.Option.{some_pair_parts}
 use Rattle.std.proofs.lemmas.List.Elements.{All-push}
@@ -17,12 +17,12 @@ use Rattle.acme_watch.specs.declared.types.WatchFile.{WatchFile}
 use Rattle.acme_watch.specs.declared.types.WatchFile.TheVariants.{Log, Jobs}
 use Rattle.acme_watch.specs.declared.types.WatchRead.{WatchRead}
 use Rattle.core_fids.specs.Done.{IsSent}
+use Rattle.core_events.specs.Responses.{IsSaid, AreSaid}
+use Rattle.core_events.specs.declared.response.Response.{Response}
 use Rattle.core_events.proofs.Turns.{read_sent}
-use Rattle.core_watch.specs.declared.response.WatchResponse.{WatchResponse}
-use Rattle.core_watch.specs.Sound.{IsWatchSound}
+use Rattle.core_watch.specs.Sound.{IsWatchSound, IsWatchIdle}
 use Rattle.core_watch.specs.Serving.{next_served, response_to, then_served, served_most, after_serving_most}
-use Rattle.core_watch.specs.Serving.{watch_served}
-use Rattle.core_watch.specs.Serving.{watch_after_serving, IsWatchSaid, AreWatchSaid}
+use Rattle.core_watch.specs.Serving.{watch_served, watch_after_serving}
 use Rattle.core_watch.proofs.Lists.{found_less}
 use Rattle.core_watch.proofs.Pieces.{piece_small}
 use Rattle.core_watch.proofs.Sounds.{next_small, sound_served}
@@ -64,10 +64,10 @@ now_sent s x p h small =
 
 -- the answer to a waiting read has a spelling
 served_sent : (s : WatchState) (x : WatchRead) (p : Piece) → IsWatchSound s → next_served s ≡ Some (x, p)
-    → IsWatchSaid (response_to (x, p))
+    → IsSaid (response_to (x, p))
 served_sent s x p sound h =
     let k = served_next s (next_of s) x p h in
-    subst (λ (q : Piece). IsWatchSaid (response_to (x, q))) k.1
+    subst (λ (q : Piece). IsSaid (response_to (x, q))) k.1
     (read_sent (piece_for s x).bytes x.asker.count (in_small s x.file x.asker) (next_small s x sound k.0))
 
 -- ---- each answer leaves a read less
@@ -133,22 +133,22 @@ after_all_none at s h = after_none_more (length s.reads) at s h
 
 -- ---- an answer more to what was said so far
 
-pub said_more : (at : ℕ) (start s after : WatchState) (x : WatchRead) (p : Piece) (said more : List WatchResponse)
+pub said_more : (at : ℕ) (start s after : WatchState) (x : WatchRead) (p : Piece) (said more : List Response)
     → next_served s ≡ Some (x, p) → after ≡ after_serve s at → said ++ watch_served at s ≡ watch_served at start
     → more ≡ said ++ response_to (x, p) ∷ []
     → more ++ watch_served at after ≡ watch_served at start
 said_more at start s after x p said more h e exact push =
-    ap (λ (l : List WatchResponse). l ++ watch_served at after) push
+    ap (λ (l : List Response). l ++ watch_served at after) push
     ∙ append_assoc said (response_to (x, p) ∷ []) (watch_served at after)
     ∙ ap (λ (t : WatchState). said ++ (response_to (x, p) ∷ watch_served at t)) e
-    ∙ ap (λ (l : List WatchResponse). said ++ l) (sym (all_more at s x p h))
+    ∙ ap (λ (l : List Response). said ++ l) (sym (all_more at s x p h))
     ∙ exact
 
-pub more_said : (s : WatchState) (x : WatchRead) (p : Piece) (said more : List WatchResponse)
-    → IsWatchSound s → next_served s ≡ Some (x, p) → AreWatchSaid said → more ≡ said ++ response_to (x, p) ∷ []
-    → AreWatchSaid more
+pub more_said : (s : WatchState) (x : WatchRead) (p : Piece) (said more : List Response)
+    → IsWatchSound s → next_served s ≡ Some (x, p) → AreSaid said → more ≡ said ++ response_to (x, p) ∷ []
+    → AreSaid more
 more_said s x p said more sound h all push =
-    subst AreWatchSaid (sym push) (All-push IsWatchSaid said (response_to (x, p)) all (served_sent s x p sound h))
+    subst AreSaid (sym push) (All-push IsSaid said (response_to (x, p)) all (served_sent s x p sound h))
 
 pub fewer : (at : ℕ) (s after : WatchState) (x : WatchRead) (p : Piece) → next_served s ≡ Some (x, p)
     → after ≡ after_serve s at → length after.reads < length s.reads
@@ -159,3 +159,36 @@ fewer at s after x p h e =
 
 pub sound_after : (at : ℕ) (s after : WatchState) → IsWatchSound s → after ≡ after_serve s at → IsWatchSound after
 sound_after at s after sound e = subst (λ (t : WatchState). IsWatchSound t) (sym e) (sound_served s at sound)
+
+-- ---- until none can be
+
+no_reads : (t : WatchRead → Bool) (rs : List WatchRead) → length rs ≤ 0 → find t rs ≡ None
+no_reads t [] l = refl
+no_reads t (r ∷ rs) l = absurd (omega arith)
+
+serve_more : (n at : ℕ) (s : WatchState) (o : Option WatchRead) → next_of s ≡ o → length s.reads ≤ suc n
+    → (length (after_serve s at).reads ≤ n → IsWatchIdle (after_serving_most n at (after_serve s at)))
+    → IsWatchIdle (after_serving_most n at (after_serve s at))
+serve_more n at s None e h rest =
+    let none : next_served s ≡ None = ap (with_piece s) e in
+    subst (λ (t : WatchState). IsWatchIdle t)
+    (sym (ap (λ (t : WatchState). after_serving_most n at t) (idle at s none) ∙ after_none_more n at s none)) e
+serve_more n at s (Some x) e h rest =
+    let found : next_served s ≡ Some (x, piece_for s x) = ap (with_piece s) e in
+    rest (omega (arith, served_less at s x (piece_for s x) found, h))
+
+serve_most : (n at : ℕ) (s : WatchState) → length s.reads ≤ n → IsWatchIdle (after_serving_most n at s)
+unfolding after_serving_most
+serve_most zero at s h = no_reads (can_answer s.log s.jobs) s.reads h
+serve_most (suc n) at s h =
+    serve_more n at s (next_of s) refl h (λ l. serve_most n at (after_serve s at) l)
+
+pub idle_served : (at : ℕ) (s : WatchState) → IsWatchIdle (watch_after_serving at s)
+idle_served at s = serve_most (length s.reads) at s (omega arith)
+
+-- where none can be, nothing is said and all stays
+pub none_said : (at : ℕ) (s : WatchState) → IsWatchIdle s → watch_served at s ≡ []
+none_said at s i = all_none at s (ap (with_piece s) i)
+
+pub none_taken : (at : ℕ) (s : WatchState) → IsWatchIdle s → watch_after_serving at s ≡ s
+none_taken at s i = after_all_none at s (ap (with_piece s) i)

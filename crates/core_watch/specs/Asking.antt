@@ -9,6 +9,8 @@ use Rattle.acme_watch.specs.Watching.{jobs_file_opened}
 use Rattle.acme_watch.specs.declared.types.WatchFile.{WatchFile}
 use Rattle.acme_watch.specs.declared.types.WatchFile.TheVariants.{Log, Jobs}
 use Rattle.acme_watch.specs.declared.types.WatchRead.{WatchRead}
+use Rattle.core_fids.specs.declared.effect.EventChange.{EventChange}
+use Rattle.core_fids.specs.declared.effect.EventChange.TheVariants as events
 use Rattle.core_fids.specs.declared.refusal.Refusal.{Refusal}
 use Rattle.core_fids.specs.declared.refusal.Refusal.TheVariants as refusal
 use Rattle.core_events.specs.Asking.{reads_are_full, waits_unless}
@@ -28,6 +30,14 @@ with_opening s Jobs = jobs_file_opened s (s.opened.jobs + 1)
 -- the files after an opening, where one more can be counted
 abbrev pub opened : WatchState → WatchFile → WatchState
 opened s file = if can_open s file then with_opening s file else s
+
+-- the files after an opening, if a message opens one
+abbrev pub opened_with : WatchState → EventChange → WatchState
+opened_with s events.Nothing = s
+opened_with s (events.Opens w) = s
+opened_with s (events.Joins port) = s
+opened_with s (events.Watches file) = opened s file
+opened_with s (events.Cancels tag) = s
 
 -- ---- a read
 

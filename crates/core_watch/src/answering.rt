@@ -1,52 +1,44 @@
 //! Answers to requests, as they are written to `jobs`.
 
-ghost use Rattle.std.specs.Prelude.{◌≡◌, ◌<◌, ◌^◌, length, IfOk};
+ghost use Rattle.std.specs.Prelude.{◌≡◌};
 ghost use Rattle.am_text.specs.Twice.{both, IsSteady};
-ghost use Rattle.core_fids.specs.Done.{IsSent};
-ghost use Rattle.core_watch.specs.Answering.{fault_text, answer_body, answer_written};
+ghost use Rattle.core_watch.specs.Answering.{refusal_of, answer_refusal, answer_written, answered_with};
 ghost use Rattle.core_watch.specs.Sound.{IsWatchSound, IsWatchIdle};
 
 use acme_watch::{AnswerFault, Watch};
-use am_text::{Items, NoMemory};
-use ninep_types::RBody;
-use std::alloc::Global;
+use am_text::Bytes;
+use core_fids::Refusal;
 
-fn fault_text(fault: AnswerFault) -> &'static [u8]
-    ensures { result.now ≡ fault_text fault }
+/// An answer to a request, as an opening of `jobs` writes it.
+#[derive(Drop)]
+pub struct RequestAnswer {
+    pub opening: u32,
+    pub text: Bytes,
+}
+
+// The refusal that tells why an answer can't be done.
+fn refusal_of(fault: AnswerFault) -> Refusal
+    ensures { result ≡ refusal_of fault }
 {
     match fault {
-        AnswerFault::BadAnswer => b"bad answer",
-        AnswerFault::Answered => b"request already answered",
-        AnswerFault::NoRequest => b"no such request",
+        AnswerFault::BadAnswer => Refusal::BadAnswer,
+        AnswerFault::Answered => Refusal::RequestAlreadyAnswered,
+        AnswerFault::NoRequest => Refusal::NoSuchRequest,
     }
 }
 
-/// What a write of this text to an opening of `jobs` is answered: the number of its bytes, or why it is refused.
-#[tactic(auto, using(crate::proofs::Answered::sent))]
-pub fn answer_request(
-    alloc: Global,
-    watch: &Watch,
-    opening: u32,
-    text: &[u8],
-) -> Result<RBody, NoMemory>
-    requires { length text.now < 2 ^ 32 }
-    ensures exact { IfOk result (λ body. body ≡ answer_body watch.now.present opening text.now) }
-    ensures sent { IfOk result IsSent }
+/// Why an answer of this text by an opening of `jobs` is refused, if it is. It takes no memory.
+pub fn answer_refusal(watch: &Watch, opening: u32, text: &[u8]) -> Option<Refusal>
+    ensures { result ≡ answer_refusal watch.now.present opening text.now }
 {
     match watch.answer_fault(opening, text) {
-        Some(fault) => Ok(RBody::Error {
-            ename: Items::copied(alloc, fault_text(fault))?,
-        }),
-        None => Ok(RBody::Write {
-            count: text.len() as u32,
-        }),
+        Some(fault) => Some(refusal_of(fault)),
+        None => None,
     }
 }
 
-/// The answer that is written to an opening of `jobs` at this entry: the request is answered, unless the write is
-/// refused. It takes no memory.
 #[tactic(auto, using(crate::proofs::Steps::answering))]
-pub fn write_answer(watch: &mut Watch, opening: u32, text: &[u8], at: u64)
+fn answer_request(watch: &mut Watch, opening: u32, text: &[u8], at: u64)
     requires steady { IsSteady watch.old }
     requires sound { IsWatchSound watch.old.present }
     ensures new { watch.new ≡ both (answer_written watch.old.present opening text.now at) }
@@ -56,5 +48,21 @@ pub fn write_answer(watch: &mut Watch, opening: u32, text: &[u8], at: u64)
     match watch.answer(opening, text, at) {
         Ok(()) => {}
         Err(_refused) => {}
+    }
+}
+
+/// The request is answered at this entry, where a message writes an answer to one that isn't refused. It takes no
+/// memory.
+#[tactic(auto, using(crate::proofs::Steps::answering))]
+pub fn write_answer(watch: &mut Watch, answer: &Option<RequestAnswer>, at: u64)
+    requires steady { IsSteady watch.old }
+    requires sound { IsWatchSound watch.old.present }
+    ensures new { watch.new ≡ both (answered_with at watch.old.present answer.now) }
+    ensures sound { IsWatchSound watch.new.present }
+    ensures idle { IsWatchIdle watch.old.present → IsWatchIdle watch.new.present }
+{
+    match answer {
+        Some(answer) => answer_request(watch, answer.opening, answer.text.as_slice(), at),
+        None => {}
     }
 }

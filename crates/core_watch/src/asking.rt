@@ -5,14 +5,14 @@ ghost use Rattle.fid_table.specs.Tables.{HasJoined};
 ghost use Rattle.acme_watch.specs.Watching.{has_opening, asked_of, after_ask};
 ghost use Rattle.core_fids.specs.Done.{IsSent};
 ghost use Rattle.ninep_types.specs.Limits.{rread_head};
-ghost use Rattle.core_watch.specs.Asking.{can_open, with_opening, opened, read_refusal, watch_said, watch_read};
+ghost use Rattle.core_watch.specs.Asking.{can_open, with_opening, opened_with, read_refusal, watch_said, watch_read};
 ghost use Rattle.core_watch.specs.Asking.{tables_read_watch};
 ghost use Rattle.core_watch.specs.Sound.{IsWatchSound, IsWatchIdle};
 
 use acme_watch::{Watch, WatchFile, WatchRead};
 use am_text::NoMemory;
 use core_events::reads_are_full;
-use core_fids::{RBody, Refusal, error};
+use core_fids::{EventChange, RBody, Refusal, error};
 use fid_table::Sessions;
 use std::alloc::Global;
 use wait_queue::Asked;
@@ -47,19 +47,26 @@ fn add_opening(watch: &mut Watch, file: WatchFile) -> Result<(), NoMemory>
     }
 }
 
-/// Makes an opening more of a file, where one more can be counted.
-#[tactic(auto, using(crate::proofs::Steps::opening))]
-pub fn open_watch(watch: &mut Watch, file: WatchFile) -> Result<(), NoMemory>
+/// Makes an opening more of a file, where the message asks for one and it can be counted.
+pub fn open_watch(watch: &mut Watch, events: EventChange) -> Result<(), NoMemory>
     requires { IsWatchSound watch.old.present }
     ensures kept { watch.new.kept ≡ watch.old.kept }
-    ensures ok { OnOk result (watch.new.present ≡ opened watch.old.present file) }
+    ensures ok { OnOk result (watch.new.present ≡ opened_with watch.old.present events) }
     ensures sound { OnOk result (IsWatchSound watch.new.present) }
     ensures idle { IsWatchIdle watch.old.present → OnOk result (IsWatchIdle watch.new.present) }
 {
-    if can_open(watch, file) {
-        add_opening(watch, file)?;
+    match events {
+        EventChange::Watches { file } => {
+            if can_open(watch, file) {
+                add_opening(watch, file)?;
+            }
+            Ok(())
+        }
+        EventChange::Nothing => Ok(()),
+        EventChange::Opens { .. } => Ok(()),
+        EventChange::Joins { .. } => Ok(()),
+        EventChange::Cancels { .. } => Ok(()),
     }
-    Ok(())
 }
 
 // Why a read is refused, if it is.

@@ -2,13 +2,14 @@
 
 ghost use Rattle.std.specs.Prelude.{◌≡◌, IfOk, OnOk};
 ghost use Rattle.acme_watch.specs.Watching.{after_serve};
-ghost use Rattle.core_watch.specs.Serving.{opening_of, next_served, response_to, watch_served, watch_after_serving};
-ghost use Rattle.core_watch.specs.Serving.{AreWatchSaid};
+ghost use Rattle.core_events.specs.Responses.{AreSaid};
+ghost use Rattle.core_watch.specs.Serving.{next_served, response_to, watch_served, watch_after_serving};
 ghost use Rattle.core_watch.specs.Sound.{IsWatchSound, IsWatchIdle};
 
-use crate::response::{WatchOpening, WatchResponse, WatchResponses};
 use acme_watch::{Watch, WatchRead};
 use am_text::{Items, NoMemory};
+use core_events::{Response, Responses, watch_feed};
+use core_fids::WatchOpening;
 use ninep_types::{RBody, RMsg};
 use std::alloc::Global;
 use wait_queue::Piece;
@@ -29,28 +30,28 @@ fn serve_next(watch: &mut Watch, at: u64) -> Result<Option<(WatchRead, Piece)>, 
 }
 
 // The answer to a read that waited.
-fn response_to(read: WatchRead, piece: Piece) -> WatchResponse
+fn response_to(read: WatchRead, piece: Piece) -> Response
     ensures { result ≡ response_to (read, piece) }
 {
     let asker = read.asker;
-    WatchResponse {
+    Response {
         conn: asker.conn,
         message: RMsg {
             tag: asker.tag,
             body: RBody::Read { bytes: piece.bytes },
         },
-        opening: WatchOpening {
+        feed: Some(watch_feed(WatchOpening {
             file: read.file,
             opening: asker.opening,
-        },
+        })),
     }
 }
 
 /// Answers the waiting reads of both files that can be answered at this entry, the oldest first, until none can.
-pub fn serve_watch(alloc: Global, watch: &mut Watch, at: u64) -> Result<WatchResponses, NoMemory>
+pub fn serve_watch(alloc: Global, watch: &mut Watch, at: u64) -> Result<Responses, NoMemory>
     requires { IsWatchSound watch.old.present }
     ensures exact { IfOk result (λ said. said ≡ watch_served at watch.old.present) }
-    ensures said { IfOk result AreWatchSaid }
+    ensures said { IfOk result AreSaid }
     ensures kept { watch.new.kept ≡ watch.old.kept }
     ensures ok { OnOk result (watch.new.present ≡ watch_after_serving at watch.old.present) }
     ensures sound { OnOk result (IsWatchSound watch.new.present) }

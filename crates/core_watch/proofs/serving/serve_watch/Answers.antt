@@ -1,6 +1,6 @@
 use Rattle.std.proofs.Common.{◌≡◌, Some, sym, ap, ◌∙◌, subst, append-nil, ◌++◌, List, [], ◌∷◌}
 use Rattle.acme_watch.specs.Watching.{WatchState, after_serve}
-use Rattle.core_watch.specs.declared.response.WatchResponse.{WatchResponse}
+use Rattle.core_events.specs.declared.response.Response.{Response}
 use Rattle.core_watch.specs.Serving.{next_served, response_to, watch_after_serving}
 use Rattle.core_watch.specs.Sound.{IsWatchIdle}
 use Rattle.core_watch.proofs.Turns.{said_more, more_said, after_all_more, all_none, none_next, idle, after_all_none}
@@ -19,7 +19,7 @@ loop-said-preserved c =
     let after : c.serve_next.new.watch.present ≡ after_serve c.loop-said.watch.present c.args.at =
     c.in_ok-read.ensures.ok in
     let pushed : c.push.new.self ≡ c.loop-said.said ++ response_to (c.in-Some.read, c.in-Some.piece) ∷ [] =
-    c.in_ok-push.ensures.ok ∙ ap (λ (x : WatchResponse). c.loop-said.said ++ x ∷ []) c.response_to.ensures in
+    c.in_ok-push.ensures.ok ∙ ap (λ (x : Response). c.loop-said.said ++ x ∷ []) c.response_to.ensures in
     record {
       exact = said_more c.args.at c.args.watch.now.present c.loop-said.watch.present
           c.serve_next.new.watch.present c.in-Some.read c.in-Some.piece c.loop-said.said c.push.new.self
@@ -39,7 +39,7 @@ pub returns-clause-exact : goal.returns-clause-exact
 returns-clause-exact c =
     let none = all_none c.args.at c.loop-said.watch.present (sym c.in_ok-read.ensures.answer ∙ c.in_default.is) in
     sym (append-nil c.loop-said.said)
-    ∙ ap (λ (l : List WatchResponse). c.loop-said.said ++ l) (sym none)
+    ∙ ap (λ (l : List Response). c.loop-said.said ++ l) (sym none)
     ∙ c.loop-said.invariant.exact
 
 pub returns-clause-ok : goal.returns-clause-ok

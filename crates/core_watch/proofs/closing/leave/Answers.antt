@@ -2,7 +2,7 @@ use Rattle.acme_watch.specs.Watching.{log_left, jobs_file_left}
 use Rattle.core_watch.proofs.Sounds.{sound_log_left, sound_jobs_left}
 use Rattle.core_watch.proofs.Idles.{idle_log_left, idle_jobs_left}
 use Rattle.core_watch.proofs.Steps.{sound_both, idle_both}
-use Rattle.core_watch.proofs.closing.close_opening.Goals as goal
+use Rattle.core_watch.proofs.closing.leave.Goals as goal
 
 pub returns-in-Log-clause-sound : goal.returns-in-Log-clause-sound
 returns-in-Log-clause-sound c =
