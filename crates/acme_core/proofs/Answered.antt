@@ -27,7 +27,7 @@ or_refused_answers asked (Some refusal) a h =
 pub answered : EachReactionAnswers → EachIsAnswered
 answered law s conn msg =
     let d : Reaction = reaction_at s conn msg in
-    let x : Option Refusal = demand_refusal s.scene.book d.demand in
+    let x : Option Refusal = demand_refusal s.scene d.demand in
     or_refused_answers msg.body (task_refusal (entry_by s (message_origin s.tables conn msg.body))
     (demanded_task s.scene.book d.changes d.demand) s.scene) (or_refused x d.answer)
     (or_refused_answers msg.body x d.answer (law (server_at s conn) msg.body))

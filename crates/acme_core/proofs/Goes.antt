@@ -23,6 +23,8 @@ use Rattle.core_scene.proofs.Settled.{settled_in}
 use Rattle.core_events.specs.Sound.{IsSound, IsIdle}
 use Rattle.core_events.specs.PortSound.{ArePortsSound, ArePortsIdle}
 use Rattle.core_events.proofs.PortSounds.{sound_beginning}
+use Rattle.core_watch.specs.Sound.{IsWatchSound, IsWatchIdle}
+use Rattle.core_watch.proofs.Sounds.{sound_watching}
 use Rattle.core_closing.specs.declared.prepared.Prepared.{Prepared}
 use Rattle.core_parts.specs.declared.parts.Parts.{Parts}
 use Rattle.core_parts.specs.declared.connection.Connection.TheVariants.{Undialed}
@@ -37,7 +39,7 @@ use Rattle.core_parts.specs.States.{Present, State, present, start_of}
 use Rattle.acme_core.proofs.Few.{length-connections}
 use Rattle.core_steps.proofs.Joins.{joins_on}
 use Rattle.core_intents.proofs.Kinded.{numbered, found}
-use Rattle.acme_core.proofs.Idling.{idle_after, ports_idle_after}
+use Rattle.acme_core.proofs.Idling.{idle_after, ports_idle_after, watch_idle_after}
 
 pub run-push : (journal : Journal) (e : Event) → run (longer journal e) ≡ step (run journal) e
 unfolding run
@@ -116,8 +118,9 @@ lawful_on show s e lawful possible = (shows show s e lawful possible).lawful
 sound_on : (old new : Parts) (spare : ℕ) (p : Prepared) → AreSound old → IsPrepared (present_of old) spare old p
     → present_of new ≡ after (present_of old) p.event (doing_of (present_of old) p.event)
     → IsSound new.entries new.scene.book.kept → IsIdle new.scene.book.kept
-    → ArePortsSound new.scene.ports.kept → ArePortsIdle new.scene.ports.kept → AreSound new
-sound_on old new spare p was ready changed book idle ports ports_idle =
+    → ArePortsSound new.scene.ports.kept → ArePortsIdle new.scene.ports.kept
+    → IsWatchSound new.scene.watch.kept → IsWatchIdle new.scene.watch.kept → AreSound new
+sound_on old new spare p was ready changed book idle ports ports_idle watch watch_idle =
     let s : Present = present_of old in
     record {
       conns = ap (λ (x : Present). length x.connections) changed ∙ length-connections old.connections.items
@@ -129,6 +132,8 @@ sound_on old new spare p was ready changed book idle ports ports_idle =
       idle = idle;
       ports = ports;
       ports_idle = ports_idle;
+      watch = watch;
+      watch_idle = watch_idle;
     }
 
 -- what is kept goes on with a step
@@ -136,9 +141,9 @@ pub kept_on : DeedsShow → (format : Format) (entries next : Room Event) (old n
     (left : Option Prepared)
     → IsKept format entries old (Some p) → e ≡ p.event → next.items ≡ entries.items ++ e ∷ [] → next.spare ≡ entries.spare - 1
     → present_of new ≡ after (present_of old) p.event (doing_of (present_after (journal_in format entries.items)) p.event)
-    → IsSound new.entries new.scene.book.kept → ArePortsSound new.scene.ports.kept → AreSteady new → left ≡ None
-    → IsKept format next new left
-kept_on show format entries next old new p e left was is grown spare changed book ports steady none =
+    → IsSound new.entries new.scene.book.kept → ArePortsSound new.scene.ports.kept → IsWatchSound new.scene.watch.kept
+    → AreSteady new → left ≡ None → IsKept format next new left
+kept_on show format entries next old new p e left was is grown spare changed book ports watch steady none =
     let s : State = run (journal_in format entries.items) in
     let ready : IsPrepared (present s) entries.spare old p = was.ready in
     let pushed : next.items ≡ entries.items ++ p.event ∷ [] = grown ∙ ap (λ (x : Event). entries.items ++ x ∷ []) is in
@@ -175,7 +180,9 @@ kept_on show format entries next old new p e left was is grown spare changed boo
       sound = sound_on old new entries.spare p was.sound readied same book
           (subst (λ (x : Present). IsIdle x.scene.book) (sym (stepped ∙ ap present ran)) (idle_after (journal_in format next.items)))
           ports (subst (λ (x : Present). ArePortsIdle x.scene.ports) (sym (stepped ∙ ap present ran))
-          (ports_idle_after (journal_in format next.items)));
+          (ports_idle_after (journal_in format next.items)))
+          watch (subst (λ (x : Present). IsWatchIdle x.scene.watch) (sym (stepped ∙ ap present ran))
+          (watch_idle_after (journal_in format next.items)));
       hangs = record {
         room = omega (arith, count, spare, ready.entries.room);
         numbers =
@@ -213,6 +220,8 @@ kept_back format entries parts new prepared left was none back =
         idle = was.sound.idle;
         ports = was.sound.ports;
         ports_idle = was.sound.ports_idle;
+        watch = was.sound.watch;
+        watch_idle = was.sound.watch_idle;
       };
       hangs = was.hangs;
       ready = subst (λ (x : Option Prepared). IsReady (present_after (journal_in format entries.items)) entries.spare gone x) (sym none)
@@ -252,6 +261,8 @@ kept_start laws format entries parts empty state steady =
         idle = subst (λ (x : Present). IsIdle x.scene.book) (sym state) refl;
         ports = subst (λ (x : Present). ArePortsSound x.scene.ports) (sym state) sound_beginning;
         ports_idle = subst (λ (x : Present). ArePortsIdle x.scene.ports) (sym state) refl;
+        watch = subst (λ (x : Present). IsWatchSound x.scene.watch) (sym state) sound_watching;
+        watch_idle = subst (λ (x : Present). IsWatchIdle x.scene.watch) (sym state) refl;
       };
       hangs = record { room = omega (arith, none); numbers = omega (arith, none, first) };
       ready = steady;

@@ -11,6 +11,8 @@ use Rattle.core_intents.specs.Doings.{doing_of}
 use Rattle.core_parts.specs.Kinds.{kind_of}
 use Rattle.acme_core.specs.Run.{step, run}
 use Rattle.core_steps.proofs.Idling.{idle_on, ports_idle_on}
+use Rattle.core_watch.specs.Sound.{IsWatchIdle}
+use Rattle.acme_core.proofs.Watching.{IsStill, still_on}
 
 step_idle : (s : State) (e : Event) → AreIdle [] s.entries s.scene.book
     → AreIdle [] (step s e).entries (step s e).scene.book
@@ -43,4 +45,20 @@ pub ports_idle_after : (journal : Journal) → ArePortsIdle (run journal).scene.
 unfolding run
 ports_idle_after journal = fold_ports (start_of journal.format) journal.events refl
 
-pub ruleset idling = (idle_after, ports_idle_after)
+-- and of `log` and `jobs`
+step_watch : (s : State) (e : Event) → IsStill s.scene.watch → IsStill (step s e).scene.watch
+unfolding step
+step_watch s e still = still_on (present s) (kind_of e) (doing_of (present s) e) still.single
+
+fold_watch : (s : State) (events : List Event) → IsStill s.scene.watch → IsStill (fold step s events).scene.watch
+fold_watch s [] still = still
+fold_watch s (e ∷ events) still = fold_watch (step s e) events (step_watch s e still)
+
+pub watch_still_after : (journal : Journal) → IsStill (run journal).scene.watch
+unfolding run
+watch_still_after journal = fold_watch (start_of journal.format) journal.events (record { single = refl; idle = refl })
+
+pub watch_idle_after : (journal : Journal) → IsWatchIdle (run journal).scene.watch
+watch_idle_after journal = (watch_still_after journal).idle
+
+pub ruleset idling = (idle_after, ports_idle_after, watch_idle_after)

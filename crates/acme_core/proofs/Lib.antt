@@ -7,5 +7,6 @@ pub mod Ordered
 pub mod Viewed
 pub mod Connected
 pub mod Answered
+pub mod Watching
 pub mod Idling
 pub mod Formats

@@ -8,6 +8,7 @@ use Rattle.am_journal.specs.Lawful.{IsLawful}
 use Rattle.core_windows.specs.Stories.{AreLawful}
 use Rattle.core_events.specs.Sound.{IsSound, IsIdle}
 use Rattle.core_events.specs.PortSound.{ArePortsSound, ArePortsIdle}
+use Rattle.core_watch.specs.Sound.{IsWatchSound, IsWatchIdle}
 use Rattle.core_parts.specs.declared.parts.Parts.{Parts}
 use Rattle.core_closing.specs.declared.prepared.Prepared.{Prepared}
 use Rattle.core_parts.specs.Connections.{connections_after, live_count, AreJoined}
@@ -52,6 +53,8 @@ pub record AreSound (parts : Parts) : Type 0 where
   pub idle : IsIdle parts.scene.book.kept
   pub ports : ArePortsSound parts.scene.ports.kept
   pub ports_idle : ArePortsIdle parts.scene.ports.kept
+  pub watch : IsWatchSound parts.scene.watch.kept
+  pub watch_idle : IsWatchIdle parts.scene.watch.kept
 
 -- The events of the journal of this format were enabled and could be done, the tables are as it leads to, its windows
 -- are lawful, and there is an entry for the hang-up of each connection that lives.

@@ -13,6 +13,7 @@ ghost use Rattle.acme_core.specs.Addresses.{addr_at, body_at};
 ghost use Rattle.event_book.specs.Laws.{WindowOrder, WhatAFidGets};
 ghost use Rattle.core_events.specs.Sound.{IsIdle};
 ghost use Rattle.core_events.specs.PortSound.{ArePortsIdle};
+ghost use Rattle.core_watch.specs.Sound.{IsWatchIdle};
 ghost use Rattle.acme_core.specs.Asks.{answer_at};
 ghost use Rattle.acme_core.specs.Views.{ledger, view_of};
 
@@ -273,12 +274,13 @@ impl Core {
         self.parts.scene.book.is_lawful();
     }
 
-    /// In each journal of a core no read of an event file or of a port waits that could be answered: what each
-    /// waits for hasn't come yet.
+    /// In each journal of a core no read of an event file, of a port, of `log` or of `jobs` waits that could be
+    /// answered: what each waits for hasn't come yet.
     #[tactic(auto, using(crate::proofs::Idling::idling))]
     pub fn no_waiting_read_can_be_answered(&self)
         ensures events { IsIdle (run self.now.journal).scene.book }
         ensures ports { ArePortsIdle (run self.now.journal).scene.ports }
+        ensures watch { IsWatchIdle (run self.now.journal).scene.watch }
     {
         // law: it is the invariant of the core, known once a field is read
         let _entries = self.events.len();

@@ -3,8 +3,6 @@
 ghost use Rattle.std.specs.Prelude.{◌≡◌, ◌+◌, ◌<◌, ◌≤◌, ◌^◌, true, false, Some, None, length, IfOk, IfErr, OnOk, OnErr};
 ghost use Rattle.am_journal.specs.Lawful.{IsLawful};
 ghost use Rattle.core_parts.specs.Connections.{live_count, IsJoinedFor};
-ghost use Rattle.core_events.specs.Sound.{IsSound, IsIdle};
-ghost use Rattle.core_events.specs.PortSound.{ArePortsSound, ArePortsIdle};
 ghost use Rattle.core_parts.specs.Kinds.{kind_of, is_hang};
 ghost use Rattle.core_intents.specs.Doings.{enabled_at, doing_of};
 ghost use Rattle.acme_core.specs.Kept.{AreSound, IsPrepared, IsReady, HasEntries, planned_of};
@@ -52,10 +50,7 @@ fn hanging(alloc: Global, parts: &Parts, event: Event) -> Prepared
     requires hang { is_hang event ≡ true }
     requires joined { IsJoinedFor parts.now.sessions.kept (kind_of event) }
     requires steady { AreSteady parts.now }
-    requires sound { IsSound parts.now.entries parts.now.scene.book.kept }
-    requires idle { IsIdle parts.now.scene.book.kept }
-    requires ports { ArePortsSound parts.now.scene.ports.kept }
-    requires ports_idle { ArePortsIdle parts.now.scene.ports.kept }
+    requires sound { AreSound parts.now }
     requires numbers { parts.now.entries + 1 < 2 ^ 64 }
     ensures event { result.event ≡ event }
     ensures ready { HasReady parts.now result (doing_of (present_of parts.now) event) }
@@ -67,6 +62,7 @@ fn hanging(alloc: Global, parts: &Parts, event: Event) -> Prepared
         events: EventChange::Nothing,
         deleted: Items::new(alloc),
         back: None,
+        answers: None,
         user: None,
         said: Items::new(alloc),
         replies: Vec::new(alloc),

@@ -3,11 +3,14 @@ use Rattle.std.specs.Prelude.{ℕ, List}
 use Rattle.fid_table.specs.Tables.{Tables, after_hangup}
 use Rattle.event_book.specs.BookState.{BookState}
 use Rattle.plumb_ports.specs.PortsState.{PortsState}
+use Rattle.acme_watch.specs.Watching.{WatchState}
 use Rattle.core_scene.specs.Scenes.{deleted_by}
 use Rattle.core_events.specs.declared.response.Response.{Response}
 use Rattle.core_events.specs.Closing.{written_back, freed, cancelled, closed_with, without_fids}
 use Rattle.core_events.specs.Waits.{ended, without_cancelled}
 use Rattle.core_events.specs.PortClosing.{ports_freed, ports_cancelled, ports_without_fids}
+use Rattle.core_watch.specs.Answering.{answered_with}
+use Rattle.core_watch.specs.Closing.{watch_freed, watch_cancelled, watch_without_fids}
 use Rattle.core_parts.specs.declared.kind.Kind.{Kind}
 use Rattle.core_parts.specs.declared.kind.Kind.TheVariants as kind
 use Rattle.core_parts.specs.Connections.{ended_with}
@@ -34,6 +37,19 @@ left_ports tables (kind.Asks conn tag) d ports = ports_cancelled (ports_freed po
 left_ports tables (kind.Ends conn why) d ports = ports_without_fids ports tables conn
 left_ports tables (kind.Takes conn) d ports = ports
 left_ports tables kind.Acts d ports = ports
+
+-- the same of `log` and `jobs`: what an opening took and didn't answer is lost at this entry
+abbrev pub left_watch : ℕ → Tables → Kind → Doing → WatchState → WatchState
+left_watch at tables (kind.Dials conn) d watch = watch
+left_watch at tables (kind.Asks conn tag) d watch =
+    watch_cancelled (watch_freed at watch tables conn d.effect) conn d.events
+left_watch at tables (kind.Ends conn why) d watch = watch_without_fids at watch tables conn
+left_watch at tables (kind.Takes conn) d watch = watch
+left_watch at tables kind.Acts d watch = watch
+
+-- first the request is answered that a message answers
+abbrev pub closed_watch : ℕ → Tables → Kind → Doing → WatchState → WatchState
+closed_watch at tables k d watch = left_watch at tables k d (answered_with at watch d.answers)
 
 -- the sessions without the fids that are freed, and the reads that were answered wait no more
 abbrev pub ended_tables : Tables → Kind → Doing → List Response → Tables

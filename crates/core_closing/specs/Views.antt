@@ -1,5 +1,9 @@
 -- What the report tells of the editor as it stands.
 use Rattle.std.specs.Prelude.{ℕ, ◌+◌, List, [], ◌∷◌, Option, Some, None, slice_index_or}
+use Rattle.am_text.specs.declared.job.Job.{Job}
+use Rattle.am_text.specs.declared.job.JobLife.{JobLife}
+use Rattle.am_text.specs.declared.job.JobLife.TheVariants.{Waiting}
+use Rattle.acme_watch.specs.Jobs.{JobsState, life_of}
 use Rattle.am_journal.specs.declared.view.ConnView.{ConnView}
 use Rattle.am_journal.specs.declared.view.WindowView.{WindowView}
 use Rattle.am_journal.specs.declared.view.View.{View}
@@ -41,6 +45,16 @@ window_views w [] = []
 window_views w (None ∷ ws) = window_views (w + 1) ws
 window_views w (Some window ∷ ws) = window_view w window ∷ window_views (w + 1) ws
 
+-- a request that has no other life waits
+abbrev pub or_waiting : Option JobLife → JobLife
+or_waiting None = Waiting
+or_waiting (Some life) = life
+
+-- the life of each of these requests, before which there are so many
+unfoldable pub lives_from : JobsState → ℕ → List Job → List JobLife
+lives_from j before [] = []
+lives_from j before (job ∷ jobs) = or_waiting (life_of j (before + 1)) ∷ lives_from j (before + 1) jobs
+
 -- what the report tells
 abbrev pub view_at : ℕ → Present → View
 view_at entries s = record {
@@ -50,4 +64,5 @@ view_at entries s = record {
   windows = window_views 1 s.scene.windows;
   items = ledger_of s.scene.book.files;
   jobs = s.scene.jobs;
+  lives = lives_from s.scene.watch.jobs 0 s.scene.jobs;
 }

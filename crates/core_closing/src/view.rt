@@ -4,11 +4,14 @@ ghost use Rattle.std.specs.Prelude.{◌≡◌, ◌<◌, ◌+◌, ◌^◌, IfOk, 
 ghost use Rattle.core_windows.specs.Panes.{windows_of, window_of};
 ghost use Rattle.core_parts.specs.Parts.{present_of, AreSteady};
 ghost use Rattle.am_journal.specs.Limits.{connection_count};
-ghost use Rattle.core_closing.specs.Views.{user_at, conn_view, conn_views, window_views, window_view, view_at};
+ghost use Rattle.acme_watch.specs.Jobs.{life_of};
+ghost use Rattle.core_closing.specs.Views.{user_at, conn_view, conn_views, window_views, window_view, or_waiting};
+ghost use Rattle.core_closing.specs.Views.{lives_from, view_at};
 
 use am_journal::{ConnView, ConnViews, Ending, ItemViews, View, WindowView, WindowViews};
-use am_text::{Bytes, Items, Job, Jobs, NoMemory};
+use am_text::{Bytes, Items, Job, JobLife, JobLives, Jobs, NoMemory};
 use core_parts::{Connection, Parts};
+use core_watch::Watch;
 use core_windows::Pane;
 use std::alloc::Global;
 
@@ -106,6 +109,31 @@ fn jobs_of(alloc: Global, jobs: &[Job]) -> Result<Jobs, NoMemory>
     Ok(views)
 }
 
+// The life of the request with this number; one that has no other waits.
+fn life_at(watch: &Watch, number: u64) -> JobLife
+    ensures { result ≡ or_waiting (life_of watch.now.kept.jobs number) }
+{
+    match watch.kept_life(number) {
+        Some(life) => life,
+        None => JobLife::Waiting,
+    }
+}
+
+#[tactic(auto, using(crate::proofs::Viewed::viewing), unfolding(crate::specs::Views::lives_from))]
+fn lives_of(alloc: Global, watch: &Watch, jobs: &[Job]) -> Result<JobLives, NoMemory>
+    ensures { IfOk result (λ lives. lives ≡ lives_from watch.now.kept.jobs 0 jobs.now) }
+{
+    let mut lives = Items::new(alloc);
+    let mut rest = jobs;
+    let mut before: u64 = 0;
+    while let [_, after @ ..] = rest {
+        lives.push(life_at(watch, before + 1))?;
+        rest = after;
+        before += 1;
+    }
+    Ok(lives)
+}
+
 /// The view of the tables after so many entries, with these items.
 pub fn view_of(
     alloc: Global,
@@ -128,5 +156,6 @@ pub fn view_of(
         )?,
         items,
         jobs: jobs_of(alloc, parts.scene.jobs.all().as_slice())?,
+        lives: lives_of(alloc, &parts.scene.watch, parts.scene.jobs.all().as_slice())?,
     })
 }

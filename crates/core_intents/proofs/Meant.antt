@@ -58,6 +58,7 @@ demand_can e s book cs demand.ClearsRules can own = tt
 demand_can e s book cs (demand.AddsRules text) can own = tt
 demand_can e s book cs (demand.AddsRest text) can own = tt
 demand_can e s book cs (demand.Sends text) can own = tt
+demand_can e s book cs (demand.Answers opening text) can own = can e.at
 
 -- what a message does can be done, by the windows as they stand
 pub message_can : (s : Present) (ws : List (Option Window)) (book : BookState) (d : Reaction) (o : Origin) (t : Task)

@@ -72,11 +72,12 @@ resolved s i = record {
   origin = i.origin;
   answer = answer_or (task_refusal (entry_by s i.origin) i.task s.scene) i.answer;
   back = i.back;
+  answers = i.answers;
 }
 
 -- a message, by its reaction
 abbrev pub message_doing : Present → Reaction → Origin → Doing
-message_doing s d origin = resolved s (message_intent s.scene.book d origin)
+message_doing s d origin = resolved s (message_intent s.scene d origin)
 
 -- what an event comes to
 abbrev pub doing_of : Present → Event → Doing

@@ -26,11 +26,15 @@ use Rattle.core_fids.specs.declared.effect.Answer.TheVariants.{Says}
 use Rattle.core_fids.specs.declared.effect.Reaction.{Reaction}
 use Rattle.core_fids.specs.declared.refusal.Refusal.{Refusal}
 use Rattle.core_fids.specs.declared.refusal.Refusal.TheVariants as refusal
+use Rattle.core_fids.specs.declared.server.Opened.{Opened}
 use Rattle.core_fids.specs.Plumbers.{plumber_of}
 use Rattle.core_fids.specs.Refusals.{refusal_text}
 use Rattle.core_fids.specs.Servers.{ServerState}
 use Rattle.core_answers.specs.Reactions.{reaction}
 use Rattle.core_events.specs.declared.closing.BackItem.{BackItem}
+use Rattle.core_scene.specs.Scenes.{SceneState}
+use Rattle.core_watch.specs.declared.answering.RequestAnswer.{RequestAnswer}
+use Rattle.core_watch.specs.Answering.{answer_refusal}
 use Rattle.core_tasks.specs.declared.task.Task.{Task}
 use Rattle.core_tasks.specs.declared.task.Task.TheVariants as task
 use Rattle.core_intents.specs.declared.intent.Intent.{Intent}
@@ -90,6 +94,13 @@ item_named book w (Some message) = item_or_refusal w (found_of book w message)
 abbrev pub item_of_text : BookState → ℕ → List ℕ → Result BackItem Refusal
 item_of_text book w text = item_named book w (back_of text)
 
+-- ---- an answer to a request
+
+-- the answer, unless it is refused
+abbrev pub answer_unless : Option Refusal → RequestAnswer → Option RequestAnswer
+answer_unless None answer = Some answer
+answer_unless (Some refusal) answer = None
+
 -- ---- messages
 
 -- an item is done with its own text; where none is named nothing is
@@ -116,6 +127,7 @@ demanded_task book changes demand.ClearsRules = task.ClearsRules
 demanded_task book changes (demand.AddsRules text) = task.AddsRules text
 demanded_task book changes (demand.AddsRest text) = task.AddsRest text
 demanded_task book changes (demand.Sends text) = task.Sends text
+demanded_task book changes (demand.Answers opening text) = task.Changes changes
 
 -- the item that it writes back
 abbrev pub demanded_item : BookState → Demand → Option BackItem
@@ -126,24 +138,43 @@ demanded_item book demand.ClearsRules = None
 demanded_item book (demand.AddsRules text) = None
 demanded_item book (demand.AddsRest text) = None
 demanded_item book (demand.Sends text) = None
+demanded_item book (demand.Answers opening text) = None
+
+-- the answer to a request that it writes
+abbrev pub demanded_answer : SceneState → Demand → Option RequestAnswer
+demanded_answer s demand.Nothing = None
+demanded_answer s (demand.Controls w text) = None
+demanded_answer s (demand.WriteBack w text) = None
+demanded_answer s demand.ClearsRules = None
+demanded_answer s (demand.AddsRules text) = None
+demanded_answer s (demand.AddsRest text) = None
+demanded_answer s (demand.Sends text) = None
+demanded_answer s (demand.Answers opening text) =
+    answer_unless (answer_refusal s.watch opening text) (record { opening = opening; text = text })
 
 -- why what is asked of the scene is refused beforehand
-abbrev pub demand_refusal : BookState → Demand → Option Refusal
-demand_refusal book demand.Nothing = None
-demand_refusal book (demand.Controls w text) = None
-demand_refusal book (demand.WriteBack w text) = refusal_if_any (item_of_text book w text)
-demand_refusal book demand.ClearsRules = None
-demand_refusal book (demand.AddsRules text) = None
-demand_refusal book (demand.AddsRest text) = None
-demand_refusal book (demand.Sends text) = None
+abbrev pub demand_refusal : SceneState → Demand → Option Refusal
+demand_refusal s demand.Nothing = None
+demand_refusal s (demand.Controls w text) = None
+demand_refusal s (demand.WriteBack w text) = refusal_if_any (item_of_text s.book w text)
+demand_refusal s demand.ClearsRules = None
+demand_refusal s (demand.AddsRules text) = None
+demand_refusal s (demand.AddsRest text) = None
+demand_refusal s (demand.Sends text) = None
+demand_refusal s (demand.Answers opening text) = answer_refusal s.watch opening text
+
+-- how many openings were ever made, of event files, and of `log` and `jobs`
+abbrev pub opened_at : Present → Opened
+opened_at s = record { events = length s.scene.book.owners; watch = s.scene.watch.opened }
 
 -- what the messages of a connection are served from here
 abbrev pub server_at : Present → ℕ → ServerState
 server_at s conn = record {
   tables = s.tables;
   windows = s.scene.windows;
+  watched = s.scene.watched;
   plumber = plumber_of s.scene.rules s.scene.ports;
-  openings = length s.scene.book.owners;
+  opened = opened_at s;
   conn = conn;
 }
 
@@ -152,14 +183,15 @@ abbrev pub reaction_at : Present → ℕ → TMsg → Reaction
 reaction_at s conn msg = reaction (server_at s conn) msg.body
 
 -- what a message is to do
-abbrev pub message_intent : BookState → Reaction → Origin → Intent
-message_intent book d origin = record {
+abbrev pub message_intent : SceneState → Reaction → Origin → Intent
+message_intent s d origin = record {
   effect = d.effect;
   events = d.events;
-  task = demanded_task book d.changes d.demand;
+  task = demanded_task s.book d.changes d.demand;
   origin = origin;
-  answer = Some (or_refused (demand_refusal book d.demand) d.answer);
-  back = demanded_item book d.demand;
+  answer = Some (or_refused (demand_refusal s d.demand) d.answer);
+  back = demanded_item s.book d.demand;
+  answers = demanded_answer s d.demand;
 }
 
 -- ---- all events
@@ -173,6 +205,7 @@ acting task origin = record {
   origin = origin;
   answer = None;
   back = None;
+  answers = None;
 }
 
 -- nothing is to be done
@@ -183,7 +216,7 @@ nothing = acting (task.Changes []) F
 abbrev pub intent_of : Present → Event → Intent
 intent_of s (event.Dial conn) = nothing
 intent_of s (event.Msg conn msg) =
-    message_intent s.scene.book (reaction_at s conn msg) (message_origin s.tables conn msg.body)
+    message_intent s.scene (reaction_at s conn msg) (message_origin s.tables conn msg.body)
 intent_of s (event.Hang conn why) = nothing
 intent_of s (event.Took conn) = nothing
 intent_of s event.New = acting (task.Changes (change.Makes [] ∷ [])) F

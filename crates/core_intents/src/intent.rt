@@ -8,11 +8,13 @@ ghost use Rattle.core_windows.specs.declared.change.Change.TheVariants as change
 ghost use Rattle.core_fids.specs.Done.{HasSpelling};
 ghost use Rattle.core_intents.specs.Doings.{enabled_at, IsAnswerable, CanBeMeant};
 ghost use Rattle.core_intents.specs.Intents.{is_refusal, or_refused, answer_or, held_or, with_held, not_found};
-ghost use Rattle.core_intents.specs.Intents.{item_of_text, back_task, item_if_any, refusal_if_any, demanded_task};
-ghost use Rattle.core_intents.specs.Intents.{demanded_item, demand_refusal, reaction_at, message_intent, acting};
-ghost use Rattle.core_intents.specs.Intents.{nothing, intent_of};
+ghost use Rattle.core_intents.specs.Intents.{item_of_text, back_task, item_if_any, refusal_if_any, answer_unless};
+ghost use Rattle.core_intents.specs.Intents.{demanded_task, demanded_item, demanded_answer, demand_refusal};
+ghost use Rattle.core_intents.specs.Intents.{opened_at, reaction_at, message_intent, acting, nothing, intent_of};
 ghost use Rattle.core_intents.specs.Origins.{message_origin};
 ghost use Rattle.core_parts.specs.Parts.{present_of, AreSteady};
+ghost use Rattle.core_scene.specs.Scenes.{kept_of, IsSettled};
+ghost use Rattle.core_watch.specs.Answering.{answer_refusal};
 
 use crate::origin::message_origin;
 use crate::typing::{key_changes, sel_changes};
@@ -20,10 +22,11 @@ use am_journal::{Event, Spot};
 use am_text::{Bytes, Items, NoMemory, Runes, encode};
 use core_answers::reaction_of;
 use core_events::BackItem;
-use core_fids::{Answer, Demand, Effect, EventChange, Reaction, Refusal, Server, error};
+use core_fids::{Answer, Demand, Effect, EventChange, Opened, Reaction, Refusal, Server, error};
 use core_parts::Parts;
-use core_scene::{Change, Changes};
+use core_scene::{Change, Changes, Scene};
 use core_tasks::Task;
+use core_watch::{RequestAnswer, Watch, answer_refusal};
 use event_book::{BackFault, Book};
 use fid_table::{Fid, Held};
 use ninep_types::{RBody, TMsg};
@@ -32,7 +35,7 @@ use win_events::{Origin, read_back};
 
 /// What an event is to do: to the fids and the session of its connection, to event files and ports, and by a task to
 /// the scene; what the items come from that it makes; how its message is answered, where it is one and its task isn't
-/// refused; and the item that it writes back.
+/// refused; the item that it writes back; and the answer to a request that it writes.
 #[derive(Drop)]
 pub struct Intent {
     pub effect: Effect,
@@ -41,13 +44,16 @@ pub struct Intent {
     pub origin: Origin,
     pub answer: Option<Answer>,
     pub back: Option<BackItem>,
+    pub answers: Option<RequestAnswer>,
 }
 
-// What a demand comes to: the task, the item that is written back, and why it is refused, if it is.
+// What a demand comes to: the task, the item that is written back, the answer to a request that is written, and why it
+// is refused, if it is.
 #[derive(Drop)]
 struct Demanded {
     task: Task,
     back: Option<BackItem>,
+    answers: Option<RequestAnswer>,
     refusal: Option<Refusal>,
 }
 
@@ -142,7 +148,8 @@ fn item_of_text(book: &Book, window: u32, text: &[u8]) -> Result<BackItem, Refus
 }
 
 fn by_item(alloc: Global, found: Result<BackItem, Refusal>) -> Demanded
-    ensures { result ≡ record { task = back_task found; back = item_if_any found; refusal = refusal_if_any found } }
+    ensures { result
+        ≡ record { task = back_task found; back = item_if_any found; answers = None; refusal = refusal_if_any found } }
 {
     match found {
         Ok(item) => Demanded {
@@ -151,11 +158,13 @@ fn by_item(alloc: Global, found: Result<BackItem, Refusal>) -> Demanded
                 number: item.number,
             },
             back: Some(item),
+            answers: None,
             refusal: None,
         },
         Err(refusal) => Demanded {
             task: Task::Changes(Items::new(alloc)),
             back: None,
+            answers: None,
             refusal: Some(refusal),
         },
     }
@@ -165,31 +174,66 @@ fn by_item(alloc: Global, found: Result<BackItem, Refusal>) -> Demanded
 
 // A task alone.
 fn by_task(task: Task) -> Demanded
-    ensures { result ≡ record { task = task; back = None; refusal = None } }
+    ensures { result ≡ record { task = task; back = None; answers = None; refusal = None } }
 {
     Demanded {
         task,
         back: None,
+        answers: None,
         refusal: None,
     }
 }
 
+fn answer_unless(refusal: Option<Refusal>, answer: RequestAnswer) -> Option<RequestAnswer>
+    ensures { result ≡ answer_unless refusal answer }
+{
+    match refusal {
+        None => Some(answer),
+        Some(_) => None,
+    }
+}
+
+// These changes, and an answer to a request, unless it is refused.
+fn by_answer(watch: &Watch, changes: Changes, answer: RequestAnswer) -> Demanded
+    ensures { result ≡ record {
+      task = Task.Changes changes;
+      back = None;
+      answers = answer_unless (answer_refusal watch.now.present answer.opening answer.text) answer;
+      refusal = answer_refusal watch.now.present answer.opening answer.text;
+    } }
+{
+    let refusal = answer_refusal(watch, answer.opening, answer.text.as_slice());
+    Demanded {
+        task: Task::Changes(changes),
+        back: None,
+        answers: answer_unless(refusal, answer),
+        refusal,
+    }
+}
+
 // What a message does to the scene, which makes these changes, or asks for something else.
-fn by_demand(alloc: Global, book: &Book, changes: Changes, demand: Demand) -> Demanded
-    ensures task { result.task ≡ demanded_task book.now.present changes demand }
-    ensures back { result.back ≡ demanded_item book.now.present demand }
-    ensures refusal { result.refusal ≡ demand_refusal book.now.present demand }
+fn by_demand(alloc: Global, scene: &Scene, changes: Changes, demand: Demand) -> Demanded
+    requires { IsSettled scene.now }
+    ensures task { result.task ≡ demanded_task scene.now.book.kept changes demand }
+    ensures back { result.back ≡ demanded_item scene.now.book.kept demand }
+    ensures answers { result.answers ≡ demanded_answer (kept_of scene.now) demand }
+    ensures refusal { result.refusal ≡ demand_refusal (kept_of scene.now) demand }
 {
     match demand {
         Demand::Nothing => by_task(Task::Changes(changes)),
         Demand::Controls { window, text } => by_task(Task::Controls { window, text }),
         Demand::WriteBack { window, text } => {
-            by_item(alloc, item_of_text(book, window, text.as_slice()))
+            by_item(alloc, item_of_text(&scene.book, window, text.as_slice()))
         }
         Demand::ClearsRules => by_task(Task::ClearsRules),
         Demand::AddsRules { text } => by_task(Task::AddsRules { text }),
         Demand::AddsRest { text } => by_task(Task::AddsRest { text }),
         Demand::Sends { text } => by_task(Task::Sends { text }),
+        Demand::Answers { opening, text } => by_answer(
+            &scene.watch,
+            changes,
+            RequestAnswer { opening, text },
+        ),
     }
 }
 
@@ -197,7 +241,7 @@ fn by_demand(alloc: Global, book: &Book, changes: Changes, demand: Demand) -> De
 fn message_intent(alloc: Global, parts: &Parts, conn: u32, msg: &TMsg) -> Result<Intent, NoMemory>
     requires fits { Fits_t msg.now }
     requires steady { AreSteady parts.now }
-    ensures exact { IfOk result (λ i. i ≡ message_intent (present_of parts.now).scene.book
+    ensures exact { IfOk result (λ i. i ≡ message_intent (present_of parts.now).scene
         (reaction_at (present_of parts.now) conn msg.now)
         (message_origin (present_of parts.now).tables conn msg.now.body)) }
     ensures possible { IfOk result (CanBeMeant (present_of parts.now)) }
@@ -208,7 +252,10 @@ fn message_intent(alloc: Global, parts: &Parts, conn: u32, msg: &TMsg) -> Result
         windows: &parts.scene.windows,
         rules: &parts.scene.rules,
         ports: &parts.scene.ports,
-        openings: parts.scene.book.openings(),
+        opened: Opened {
+            events: parts.scene.book.openings(),
+            watch: parts.scene.watch.opened(),
+        },
         conn,
     };
     let Reaction {
@@ -221,8 +268,9 @@ fn message_intent(alloc: Global, parts: &Parts, conn: u32, msg: &TMsg) -> Result
     let Demanded {
         task,
         back,
+        answers,
         refusal,
-    } = by_demand(alloc, &parts.scene.book, changes, demand);
+    } = by_demand(alloc, &parts.scene, changes, demand);
     let answer = or_refused(alloc, refusal, answer)?;
     Ok(Intent {
         effect,
@@ -231,6 +279,7 @@ fn message_intent(alloc: Global, parts: &Parts, conn: u32, msg: &TMsg) -> Result
         origin: message_origin(&parts.sessions, conn, &msg.body),
         answer: Some(answer),
         back,
+        answers,
     })
 }
 
@@ -247,6 +296,7 @@ fn acting(task: Task, origin: Origin) -> Intent
         origin,
         answer: None,
         back: None,
+        answers: None,
     }
 }
 

@@ -12,7 +12,7 @@ use Rattle.core_outputs.specs.declared.reply.Reply.{Reply}
 use Rattle.core_outputs.specs.Unsent.{Unsent, nothing_unsent}
 use Rattle.core_parts.specs.declared.connection.Connection.{Connection}
 use Rattle.core_parts.specs.declared.connection.Connection.TheVariants.{Undialed}
-use Rattle.core_parts.specs.States.{Present, present, start_of}
+use Rattle.core_parts.specs.States.{Present, present, is_watched, start_of}
 
 pub more_users : (us : List (List ℕ)) (u : List ℕ) → us ≡ replicate (length us) [] → u ≡ []
     → us ++ u ∷ [] ≡ replicate (length (us ++ u ∷ [])) []
@@ -39,7 +39,7 @@ same_present cs ds ns ms t u s r us vs rs qs a b c d e f = rw (a, b, c, d, e, f)
 pub begins : (format : Format) (cs : List Connection) (ns : List (List ℕ)) (t : Twice Tables) (s : Scene)
     (us : Twice (List Unsent)) (rs : List Reply)
     → cs ≡ replicate connection_count Undialed → ns ≡ replicate connection_count [] → t ≡ both (nothing format)
-    → s ≡ scene_in no_scene → us ≡ both (replicate connection_count nothing_unsent) → rs ≡ []
+    → s ≡ scene_in (no_scene (is_watched format)) → us ≡ both (replicate connection_count nothing_unsent) → rs ≡ []
     → ◌≡◌ {A = Present} (record {
       entries = 0;
       connections = cs;
@@ -51,5 +51,5 @@ pub begins : (format : Format) (cs : List Connection) (ns : List (List ℕ)) (t 
     }) (present (start_of format))
 begins format cs ns t s us rs a b c d e f =
     same_present cs (replicate connection_count Undialed) ns (replicate connection_count []) t.kept (nothing format)
-    (kept_of s) no_scene us.kept (replicate connection_count nothing_unsent) rs []
+    (kept_of s) (no_scene (is_watched format)) us.kept (replicate connection_count nothing_unsent) rs []
     a b (ap (λ (x : Twice Tables). x.kept) c) (ap kept_of d) (ap (λ (x : Twice (List Unsent)). x.kept) e) f

@@ -1,7 +1,8 @@
 -- The editor as it stands, and by all that was ever done.
-use Rattle.std.specs.Prelude.{ℕ, ◌+◌, List, [], replicate, Option}
+use Rattle.std.specs.Prelude.{ℕ, ◌+◌, Bool, true, false, List, [], replicate, Option}
 use Rattle.fid_table.specs.Tables.{Tables, nothing}
 use Rattle.am_journal.specs.declared.event.Format.{Format}
+use Rattle.am_journal.specs.declared.event.Format.TheVariants.{One, Two}
 use Rattle.core_scene.specs.Scenes.{SceneState, no_scene}
 use Rattle.core_windows.specs.Stories.{WindowStory, shown_windows}
 use Rattle.am_journal.specs.Limits.{connection_count}
@@ -46,6 +47,11 @@ present s = record {
   replies = s.replies;
 }
 
+-- whether the editor has the files `log` and `jobs`
+abbrev pub is_watched : Format → Bool
+is_watched One = false
+is_watched Two = true
+
 -- the empty editor of a format
 abbrev pub start_of : Format → State
 start_of format = record {
@@ -54,7 +60,7 @@ start_of format = record {
   users = replicate connection_count [];
   tables = nothing format;
   windows = [];
-  scene = no_scene;
+  scene = no_scene (is_watched format);
   unsent = replicate connection_count nothing_unsent;
   replies = [];
 }

@@ -5,7 +5,7 @@ ghost use Rattle.am_text.specs.Twice.{both};
 ghost use Rattle.am_journal.specs.Limits.{connection_count};
 ghost use Rattle.core_scene.specs.Scenes.{kept_of, scene_in};
 ghost use Rattle.core_parts.specs.Parts.{present_of, AreSteady};
-ghost use Rattle.core_parts.specs.States.{start_of, present};
+ghost use Rattle.core_parts.specs.States.{is_watched, start_of, present};
 
 use crate::connection::Connection;
 use am_journal::{CONNECTIONS, Format};
@@ -25,7 +25,7 @@ pub struct Parts {
     pub users: Vec<Bytes>,
     /// Their sessions, fids and waiting reads, and the format of the journal.
     pub sessions: Sessions,
-    /// What steps play on: windows, event files and the rest.
+    /// What steps play on: windows, event files, `log` and `jobs`, and the rest.
     pub scene: Scene,
     /// The unsent replies of each connection.
     pub outputs: Outputs,
@@ -45,6 +45,16 @@ impl Drop for Parts {
             outputs: _,
             replies: _,
         } = self;
+    }
+}
+
+// Whether the editor has the files `log` and `jobs`.
+fn is_watched(format: Format) -> bool
+    ensures { result ≡ is_watched format }
+{
+    match format {
+        Format::One => false,
+        Format::Two => true,
     }
 }
 
@@ -71,7 +81,7 @@ impl Parts {
             connections: vec![in alloc; Connection::Undialed; CONNECTIONS]?,
             users: no_users(alloc)?,
             sessions: Sessions::new(alloc, format)?,
-            scene: Scene::new(alloc)?,
+            scene: Scene::new(alloc, is_watched(format))?,
             outputs: Outputs::new(alloc)?,
             replies: Vec::new(alloc),
         })

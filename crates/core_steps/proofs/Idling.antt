@@ -10,7 +10,7 @@ use Rattle.event_book.specs.BookState.{BookState, served_of, piece_for}
 use Rattle.event_book.specs.Laws.{IsLawful}
 use Rattle.core_fids.specs.declared.effect.EventChange.{EventChange}
 use Rattle.core_fids.specs.declared.effect.Answer.{Answer}
-use Rattle.core_fids.specs.declared.effect.Answer.TheVariants.{Says, Reads, ReadsPort}
+use Rattle.core_fids.specs.declared.effect.Answer.TheVariants.{Says, Reads, ReadsPort, ReadsWatch}
 use Rattle.core_scene.specs.declared.deed.WindowItem.{WindowItem}
 use Rattle.core_scene.specs.Scenes.{deleted_by}
 use Rattle.core_events.specs.Asking.{opened}
@@ -42,6 +42,7 @@ module _ (deleted : List ℕ) (at : ℕ) where
   answered t b conn tag (Some (Reads fid opening count)) h = read_idle deleted at t b (asker_of conn tag opening count)
       h
   answered t b conn tag (Some (ReadsPort fid opening count)) h = h
+  answered t b conn tag (Some (ReadsWatch fid opening count)) h = h
 
   read : (t : Tables) (b : BookState) (k : Kind) (a : Option Answer) → AreIdle deleted at b
       → AreIdle deleted at (message_book t b k a at)

@@ -19,13 +19,13 @@ use Rattle.core_fids.specs.declared.effect.Effect.TheVariants as effect
 use Rattle.core_parts.specs.Connections.{connection_at, connections_after, was_dialed, AreJoined, IsJoinedFor}
 use Rattle.core_parts.specs.Connections.{IsOfJoined, grown, grown_with, ended_with}
 use Rattle.core_intents.specs.Enabled.{dial_refusal, live_refusal}
-use Rattle.core_parts.specs.States.{Present}
+use Rattle.core_parts.specs.States.{Present, next_entry}
 use Rattle.core_steps.specs.Stages.{asker_of, answer_tables, message_tables, acted, said, tables_after}
 use Rattle.core_parts.specs.Doing.{Doing}
 use Rattle.ninep_types.specs.declared.message.RBody.{RBody}
 use Rattle.event_book.specs.BookState.{BookState}
 use Rattle.core_fids.specs.declared.effect.Answer.{Answer}
-use Rattle.core_fids.specs.declared.effect.Answer.TheVariants.{Says, Reads, ReadsPort}
+use Rattle.core_fids.specs.declared.effect.Answer.TheVariants.{Says, Reads, ReadsPort, ReadsWatch}
 use Rattle.core_fids.specs.declared.effect.EventChange.{EventChange}
 use Rattle.core_fids.specs.declared.effect.EventChange.TheVariants as events
 use Rattle.core_events.specs.declared.response.Response.{Response}
@@ -33,9 +33,13 @@ use Rattle.core_events.specs.Asking.{read_said, waits_unless}
 use Rattle.core_events.specs.Waits.{ended, without_cancelled}
 use Rattle.plumb_ports.specs.PortsState.{PortsState}
 use Rattle.core_events.specs.PortAsking.{port_said}
+use Rattle.acme_watch.specs.Watching.{WatchState}
+use Rattle.core_watch.specs.Asking.{watch_said}
+use Rattle.core_watch.specs.declared.asking.ReadAt.{ReadAt}
 use Rattle.core_intents.specs.Doings.{IsAnswerable}
 use Rattle.core_steps.specs.declared.reading.PortRead.{PortRead}
 use Rattle.core_steps.specs.PortReads.{port_read_in, port_read_of, asked_tables, IsReadable}
+use Rattle.core_steps.specs.WatchReads.{watch_read_in, watch_read_of, followed_tables, IsFollowable}
 
 -- ---- sessions keep their connections
 
@@ -72,6 +76,7 @@ cancelled_keeps t conn x events.Nothing = refl
 cancelled_keeps t conn x (events.Opens w) = refl
 cancelled_keeps t conn x (events.Cancels tag) = refl
 cancelled_keeps t conn x (events.Joins port) = refl
+cancelled_keeps t conn x (events.Watches file) = refl
 
 waits_keeps : (t : Tables) (conn tag fid x : ℕ) (o : Option RBody)
     → has_joined (waits_unless o t conn tag fid) x ≡ has_joined t x
@@ -85,11 +90,17 @@ answer_keeps t b conn tag x (Some (Says body)) = refl
 answer_keeps t b conn tag x (Some (Reads fid opening count)) = waits_keeps t conn tag fid x
     (read_said t b (asker_of conn tag opening count))
 answer_keeps t b conn tag x (Some (ReadsPort fid opening count)) = refl
+answer_keeps t b conn tag x (Some (ReadsWatch fid opening count)) = refl
 
 asked_keeps : (t : Tables) (p : PortsState) (r : Option PortRead) (x : ℕ)
     → has_joined (asked_tables t p r) x ≡ has_joined t x
 asked_keeps t p None x = refl
 asked_keeps t p (Some r) x = waits_keeps t r.asker.conn r.asker.tag r.fid x (port_said t p r.asker)
+
+followed_keeps : (t : Tables) (w : WatchState) (r : Option ReadAt) (x : ℕ)
+    → has_joined (followed_tables t w r) x ≡ has_joined t x
+followed_keeps t w None x = refl
+followed_keeps t w (Some r) x = waits_keeps t r.read.asker.conn r.read.asker.tag r.fid x (watch_said t w r.read)
 
 or_false : (b : Bool) → (b || false) ≡ b
 or_false true = refl
@@ -158,10 +169,12 @@ joins_on s (kind.Asks conn tag) d n h e all = λ x.
     let read : Tables = answer_tables put s.scene.book conn tag d.answer in
     let port : Option PortRead = port_read_in conn tag d.answer in
     let asked : Tables = asked_tables read (acted s d).ports port in
-    let left : Tables = ended_with asked conn d.effect in
+    let read_at : Option ReadAt = watch_read_in conn tag d.answer (next_entry s) in
+    let followed : Tables = followed_tables asked (acted s d).watch read_at in
+    let left : Tables = ended_with followed conn d.effect in
     let responses : List Response = said s (kind.Asks conn tag) d in
     cancelled_keeps (ended left responses) conn x d.events ∙ ended_keeps left x responses
-    ∙ ended_with_keeps asked conn x d.effect
+    ∙ ended_with_keeps followed conn x d.effect ∙ followed_keeps asked (acted s d).watch read_at x
     ∙ asked_keeps read (acted s d).ports port x ∙ answer_keeps put s.scene.book conn tag x d.answer
     ∙ grown_keeps s.tables conn x d.effect ∙ all x
 joins_on s (kind.Ends conn why) d n h e all = λ x.
@@ -207,6 +220,14 @@ asked_joined t p r (kind.Ends conn why) h = asked_keeps t p r conn ∙ h
 asked_joined t p r (kind.Takes conn) h = tt
 asked_joined t p r kind.Acts h = tt
 
+pub followed_joined : (t : Tables) (w : WatchState) (r : Option ReadAt) (k : Kind) → IsOfJoined t k
+    → IsOfJoined (followed_tables t w r) k
+followed_joined t w r (kind.Dials conn) h = tt
+followed_joined t w r (kind.Asks conn tag) h = followed_keeps t w r conn ∙ h
+followed_joined t w r (kind.Ends conn why) h = followed_keeps t w r conn ∙ h
+followed_joined t w r (kind.Takes conn) h = tt
+followed_joined t w r kind.Acts h = tt
+
 -- ---- the read of a port
 
 readable_in : (t : Tables) (conn tag : ℕ) (a : Option Answer) → IsAnswerable a → HasJoined t conn
@@ -215,6 +236,7 @@ readable_in t conn tag None short joined = tt
 readable_in t conn tag (Some (Says body)) short joined = tt
 readable_in t conn tag (Some (Reads fid opening count)) short joined = tt
 readable_in t conn tag (Some (ReadsPort fid opening count)) short joined = record { short = short; joined = joined }
+readable_in t conn tag (Some (ReadsWatch fid opening count)) short joined = tt
 
 readable_of : (t : Tables) (k : Kind) (a : Option Answer) → IsAnswerable a → IsOfJoined t k
     → IfSome (port_read_of k a) (IsReadable t)
@@ -229,4 +251,28 @@ pub readable : (t : Tables) (k : Kind) (a : Option Answer) (r : Option PortRead)
 readable t k a r is short joined = subst (λ (x : Option PortRead). IfSome x (IsReadable t)) (sym is)
     (readable_of t k a short joined)
 
-pub ruleset joining = (grown_joined, read_joined, asked_joined, readable)
+-- ---- the read of `log` or `jobs`
+
+followable_in : (t : Tables) (conn tag : ℕ) (a : Option Answer) (at : ℕ) → IsAnswerable a → HasJoined t conn
+    → IfSome (watch_read_in conn tag a at) (IsFollowable t)
+followable_in t conn tag None at short joined = tt
+followable_in t conn tag (Some (Says body)) at short joined = tt
+followable_in t conn tag (Some (Reads fid opening count)) at short joined = tt
+followable_in t conn tag (Some (ReadsPort fid opening count)) at short joined = tt
+followable_in t conn tag (Some (ReadsWatch fid opening count)) at short joined =
+    record { short = short; joined = joined }
+
+followable_of : (t : Tables) (k : Kind) (a : Option Answer) (at : ℕ) → IsAnswerable a → IsOfJoined t k
+    → IfSome (watch_read_of k a at) (IsFollowable t)
+followable_of t (kind.Dials conn) a at short joined = tt
+followable_of t (kind.Asks conn tag) a at short joined = followable_in t conn tag a at short joined
+followable_of t (kind.Ends conn why) a at short joined = tt
+followable_of t (kind.Takes conn) a at short joined = tt
+followable_of t kind.Acts a at short joined = tt
+
+pub followable : (t : Tables) (k : Kind) (a : Option Answer) (at : ℕ) (r : Option ReadAt) → r ≡ watch_read_of k a at
+    → IsAnswerable a → IsOfJoined t k → IfSome r (IsFollowable t)
+followable t k a at r is short joined = subst (λ (x : Option ReadAt). IfSome x (IsFollowable t)) (sym is)
+    (followable_of t k a at short joined)
+
+pub ruleset joining = (grown_joined, read_joined, asked_joined, followed_joined, readable, followable)

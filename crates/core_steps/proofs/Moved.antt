@@ -1,5 +1,6 @@
 -- What a task does to a scene where nothing is ready, and what is then taken of it.
-use Rattle.std.proofs.Common.{◌≡◌, ℕ, List, [], ◌∷◌, sym, ap, subst, ◌∙◌}
+use Rattle.std.proofs.Common.{◌≡◌, ℕ, List, [], ◌∷◌, Option, Some, None, sym, ap, subst, ◌∙◌}
+use Rattle.acme_watch.specs.Watching.{WatchState}
 use Rattle.core_scene.specs.declared.deed.Entry.{Entry}
 use Rattle.core_scene.specs.declared.deed.Deed.{Deed}
 use Rattle.core_scene.specs.declared.deed.Deed.TheVariants as deed
@@ -8,8 +9,12 @@ use Rattle.core_scene.specs.declared.scene.Scene.{Scene}
 use Rattle.core_scene.specs.Scenes.{SceneState, scene_of, kept_of, IsSettled, done, done_all, deleted_by, CanDoAll, Did}
 use Rattle.core_scene.proofs.Dids.{deleted_done, book_stays}
 use Rattle.core_scene.proofs.Settled.{settled_is}
+use Rattle.core_scene.specs.Noted.{line_of, line_of_change, with_line_if_any}
+use Rattle.core_windows.specs.Windows.{window_at}
 use Rattle.core_events.specs.PortSound.{ArePortsSound}
 use Rattle.core_events.proofs.PortSounds.{sound_add, sound_deliver}
+use Rattle.core_watch.specs.Sound.{IsWatchSound}
+use Rattle.core_watch.proofs.Sounds.{sound_line, sound_request}
 use Rattle.core_tasks.specs.declared.task.Task.{Task}
 use Rattle.core_tasks.specs.Tasks.{task_deeds, CanDoTask}
 
@@ -32,6 +37,30 @@ ports_sound : (e : Entry) (s : SceneState) (ds : List Deed) → ArePortsSound s.
     → ArePortsSound (done_all e s ds).ports
 ports_sound e s [] h = h
 ports_sound e s (d ∷ ds) h = ports_sound e (done e s d) ds (port_sound e s d h)
+
+-- ---- so do the files `log` and `jobs`
+
+line_sound : (s : WatchState) (line : Option (List ℕ)) → IsWatchSound s → IsWatchSound (with_line_if_any s line)
+line_sound s None h = h
+line_sound s (Some line) h = sound_line s line h
+
+watch_sound : (e : Entry) (s : SceneState) (d : Deed) → IsWatchSound s.watch → IsWatchSound (done e s d).watch
+watch_sound e s (deed.Windows c) h = line_sound s.watch (line_of_change s.windows c) h
+watch_sound e s (deed.Item w item) h = h
+watch_sound e s (deed.Snarfs text) h = h
+watch_sound e s (deed.Stores path bytes) h = h
+watch_sound e s (deed.MakesDir path) h = h
+watch_sound e s (deed.Requests job) h = sound_request s.watch job h
+watch_sound e s (deed.Notes w op) h = line_sound s.watch (line_of w op (window_at s.windows w)) h
+watch_sound e s (deed.AddsRules sets vars text) h = h
+watch_sound e s deed.ClearsRules h = h
+watch_sound e s (deed.AddsPort name) h = h
+watch_sound e s (deed.Delivers port message keep) h = h
+
+pub watches_sound : (e : Entry) (s : SceneState) (ds : List Deed) → IsWatchSound s.watch
+    → IsWatchSound (done_all e s ds).watch
+watches_sound e s [] h = h
+watches_sound e s (d ∷ ds) h = watches_sound e (done e s d) ds (watch_sound e s d h)
 
 -- ---- a task
 
@@ -73,6 +102,12 @@ module _ (e : Entry) (old x : Scene) (t : Task) (settled : IsSettled old)
       subst (λ (s : SceneState). ArePortsSound s.ports) (sym (task_scene y z first second))
       (ports_sound e (kept_of old) deeds sound)
 
+  pub task_watch : (y z : Scene) → y ≡ record x { items = [] } → z ≡ record y { deleted = [] }
+      → IsWatchSound old.watch.kept → IsWatchSound z.watch.present
+  task_watch y z first second sound =
+      subst (λ (s : SceneState). IsWatchSound s.watch) (sym (task_scene y z first second))
+      (watches_sound e (kept_of old) deeds sound)
+
   pub task_kept : (y z : Scene) → kept_of x ≡ kept_of old → y ≡ record x { items = [] } → z ≡ record y { deleted = [] }
       → kept_of z ≡ kept_of old
   task_kept y z kept first second = ap kept_of (second ∙ ap (λ (s : Scene). record s { deleted = [] }) first) ∙ kept
@@ -84,4 +119,4 @@ module _ (e : Entry) (old x : Scene) (t : Task) (settled : IsSettled old)
 
 pub ruleset moving = (can_now)
 
-pub ruleset tasking = (can_now, task_can, task_scene, task_items, task_deleted, task_ports, task_kept, task_book)
+pub ruleset tasking = (can_now, task_can, task_scene, task_items, task_deleted, task_ports, task_watch, task_kept, task_book)

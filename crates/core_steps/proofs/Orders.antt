@@ -164,33 +164,55 @@ rows_kept age test before row behind b h = told_one age (filter test) (filter-ap
 pub rows_ordered : StaysInOrder
 rows_ordered age n rows h = rows_from age n rows h
 
--- ---- answers of two kinds
+-- ---- answers of three kinds
 
--- where one kind has none, it is the row of the other
-pub first_alone : (t : Tables) (xs ys : List Response) → ys ≡ [] → as_asked t (xs ∷ ys ∷ []) ≡ xs
-first_alone t xs ys e = ap (λ (l : List Response). merged (place_in t) l xs) e
+-- where the others have none, it is the row of the first
+pub first_alone : (t : Tables) (xs ys zs : List Response) → ys ≡ [] → zs ≡ [] → as_asked t (xs ∷ ys ∷ zs ∷ []) ≡ xs
+first_alone t xs ys zs e h =
+    ap (λ (l : List Response). merged (place_in t) (merged (place_in t) zs l) xs) e
+    ∙ ap (λ (l : List Response). merged (place_in t) l xs) (merged_none (place_in t) zs ∙ h)
 
-pub second_alone : (t : Tables) (xs ys : List Response) → xs ≡ [] → as_asked t (xs ∷ ys ∷ []) ≡ ys
-second_alone t xs ys e = ap (λ (l : List Response). merged (place_in t) ys l) e ∙ merged_none (place_in t) ys
+-- where the first has none, it is what the others are
+pub first_empty : (t : Tables) (xs ys zs : List Response) → xs ≡ []
+    → as_asked t (xs ∷ ys ∷ zs ∷ []) ≡ as_asked t (ys ∷ zs ∷ [])
+first_empty t xs ys zs e =
+    ap (λ (l : List Response). merged (place_in t) (merged (place_in t) zs ys) l) e
+    ∙ merged_none (place_in t) (merged (place_in t) zs ys)
 
-pub none_asked : (t : Tables) (xs ys : List Response) → xs ≡ [] → ys ≡ [] → as_asked t (xs ∷ ys ∷ []) ≡ []
-none_asked t xs ys e h = second_alone t xs ys e ∙ h
+pub none_asked : (t : Tables) (xs ys zs : List Response) → xs ≡ [] → ys ≡ [] → zs ≡ []
+    → as_asked t (xs ∷ ys ∷ zs ∷ []) ≡ []
+none_asked t xs ys zs e h l = first_alone t xs ys zs h l ∙ e
 
 -- what holds of each answer
-pub all_asked : (P : Response → Type 0) (t : Tables) (xs ys : List Response) → All P xs → All P ys
-    → All P (as_asked t (xs ∷ ys ∷ []))
-all_asked P t xs ys a b = merged_all (place_in t) P ys xs b a
+pub all_asked : (P : Response → Type 0) (t : Tables) (xs ys zs : List Response) → All P xs → All P ys → All P zs
+    → All P (as_asked t (xs ∷ ys ∷ zs ∷ []))
+all_asked P t xs ys zs a b c =
+    merged_all (place_in t) P (merged (place_in t) zs ys) xs (merged_all (place_in t) P zs ys c b) a
 
 -- whether an answer passes a test
-pub any_asked : (p : Response → Bool) (t : Tables) (xs ys : List Response)
-    → list_any p (as_asked t (xs ∷ ys ∷ [])) ≡ (list_any p xs || list_any p ys)
-any_asked p t xs ys = any_merged (place_in t) p ys xs
+pub any_asked : (p : Response → Bool) (t : Tables) (xs ys zs : List Response)
+    → list_any p (as_asked t (xs ∷ ys ∷ zs ∷ [])) ≡ (list_any p xs || (list_any p ys || list_any p zs))
+any_asked p t xs ys zs =
+    any_merged (place_in t) p (merged (place_in t) zs ys) xs
+    ∙ ap (λ (b : Bool). list_any p xs || b) (any_merged (place_in t) p zs ys)
 
 -- what is told of one kind alone
 module _ {B : Type 0} (g : List Response → List B) (more : (xs ys : List Response) → g (xs ++ ys) ≡ g xs ++ g ys)
     (none : g [] ≡ []) where
-  pub told_first : (t : Tables) (xs ys : List Response) → g ys ≡ [] → g (as_asked t (xs ∷ ys ∷ [])) ≡ g xs
-  told_first t xs ys h = told_row (place_in t) g more none ys xs h
+  pub told_first : (t : Tables) (xs ys zs : List Response) → g ys ≡ [] → g zs ≡ []
+      → g (as_asked t (xs ∷ ys ∷ zs ∷ [])) ≡ g xs
+  told_first t xs ys zs h l =
+      told_row (place_in t) g more none (merged (place_in t) zs ys) xs
+      (told_others (place_in t) g more none zs ys h ∙ l)
 
-  pub told_second : (t : Tables) (xs ys : List Response) → g xs ≡ [] → g (as_asked t (xs ∷ ys ∷ [])) ≡ g ys
-  told_second t xs ys h = told_others (place_in t) g more none ys xs h
+  pub told_second : (t : Tables) (xs ys zs : List Response) → g xs ≡ [] → g zs ≡ []
+      → g (as_asked t (xs ∷ ys ∷ zs ∷ [])) ≡ g ys
+  told_second t xs ys zs h l =
+      told_others (place_in t) g more none (merged (place_in t) zs ys) xs h
+      ∙ told_row (place_in t) g more none zs ys l
+
+  pub told_third : (t : Tables) (xs ys zs : List Response) → g xs ≡ [] → g ys ≡ []
+      → g (as_asked t (xs ∷ ys ∷ zs ∷ [])) ≡ g zs
+  told_third t xs ys zs h l =
+      told_others (place_in t) g more none (merged (place_in t) zs ys) xs h
+      ∙ told_others (place_in t) g more none zs ys l

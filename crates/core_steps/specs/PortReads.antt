@@ -5,7 +5,7 @@ use Rattle.fid_table.specs.Tables.{Tables, HasJoined}
 use Rattle.wait_queue.specs.declared.types.Asker.{Asker}
 use Rattle.plumb_ports.specs.PortsState.{PortsState}
 use Rattle.core_fids.specs.declared.effect.Answer.{Answer}
-use Rattle.core_fids.specs.declared.effect.Answer.TheVariants.{Says, Reads, ReadsPort}
+use Rattle.core_fids.specs.declared.effect.Answer.TheVariants.{Says, Reads, ReadsPort, ReadsWatch}
 use Rattle.core_events.specs.declared.response.Response.{Response}
 use Rattle.core_events.specs.Responses.{port_feed}
 use Rattle.core_events.specs.PortAsking.{port_said, ports_read, tables_read_port}
@@ -21,6 +21,7 @@ port_read_in conn tag (Some (Says body)) = None
 port_read_in conn tag (Some (Reads fid opening count)) = None
 port_read_in conn tag (Some (ReadsPort fid opening count)) =
     Some (record { fid = fid; asker = record { conn = conn; tag = tag; opening = opening; count = count } })
+port_read_in conn tag (Some (ReadsWatch fid opening count)) = None
 
 -- the read that an event of this kind is, where it is one
 abbrev pub port_read_of : Kind → Option Answer → Option PortRead

@@ -4,6 +4,7 @@ ghost use Rattle.std.specs.Prelude.{◌≡◌, [], IfOk, OnOk};
 ghost use Rattle.core_tasks.specs.Tasks.{task_deeds, task_refusal, task_held, CanDoTask};
 ghost use Rattle.core_scene.specs.Scenes.{scene_of, kept_of, done_all, deleted_by, CanDoAll, IsSettled};
 ghost use Rattle.core_events.specs.PortSound.{ArePortsSound};
+ghost use Rattle.core_watch.specs.Sound.{IsWatchSound};
 ghost use Rattle.core_intents.specs.Doings.{IsAnswerable};
 ghost use Rattle.core_intents.specs.Intents.{answer_or};
 
@@ -37,6 +38,7 @@ pub(crate) fn act(
     requires can { CanDoTask entry (kept_of scene.old) task }
     requires answerable { IsAnswerable answer }
     requires ports { ArePortsSound scene.old.ports.kept }
+    requires watch { IsWatchSound scene.old.watch.kept }
     ensures scene { OnOk result (scene_of scene.new
         ≡ record (done_all entry (kept_of scene.old) (task_deeds entry task (kept_of scene.old)))
         { items = []; deleted = [] }) }
@@ -50,6 +52,7 @@ pub(crate) fn act(
     ensures kept { kept_of scene.new ≡ kept_of scene.old }
     ensures book { OnOk result (scene.new.book ≡ scene.old.book) }
     ensures ports { OnOk result (ArePortsSound scene.new.ports.present) }
+    ensures watch { OnOk result (IsWatchSound scene.new.watch.present) }
 {
     let Ended { refusal, held } = do_task(alloc, scene, entry, task)?;
     let items = scene.take_items(alloc);

@@ -3,6 +3,7 @@
 ghost use Rattle.std.specs.Prelude.{◌≡◌};
 ghost use Rattle.core_events.specs.Sound.{IsSound};
 ghost use Rattle.core_events.specs.PortSound.{ArePortsSound};
+ghost use Rattle.core_watch.specs.Sound.{IsWatchSound};
 ghost use Rattle.core_parts.specs.Doing.{Doing};
 ghost use Rattle.core_parts.specs.Parts.{present_of, AreSteady};
 ghost use Rattle.core_steps.specs.Ready.{HasReady};
@@ -11,7 +12,7 @@ ghost use Rattle.core_steps.specs.Stages.{after};
 use am_journal::Event;
 use core_closing::{
     Prepared, change_book, change_connections, change_ports, change_sessions, change_users,
-    take_replies,
+    change_watch, take_replies,
 };
 use core_parts::{Parts, kind_of};
 use std::alloc::Global;
@@ -24,6 +25,7 @@ pub fn apply(alloc: Global, parts: &mut Parts, prepared: Prepared) -> Event
         ≡ after (present_of parts.old) prepared.event d }
     ensures sound { IsSound parts.new.entries parts.new.scene.book.kept }
     ensures ports { ArePortsSound parts.new.scene.ports.kept }
+    ensures watch { IsWatchSound parts.new.scene.watch.kept }
     ensures steady { AreSteady parts.new }
 {
     let kind = kind_of(&prepared.event);
@@ -31,6 +33,7 @@ pub fn apply(alloc: Global, parts: &mut Parts, prepared: Prepared) -> Event
     parts.scene.keep(alloc);
     change_book(&mut parts.scene.book, &parts.sessions, kind, &prepared);
     change_ports(&mut parts.scene.ports, &parts.sessions, kind, &prepared);
+    change_watch(&mut parts.scene.watch, &parts.sessions, kind, &prepared);
     let Prepared {
         event,
         at,

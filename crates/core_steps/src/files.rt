@@ -61,7 +61,8 @@ fn read(
     }
 }
 
-// What is said to an event of this kind at once: it is answered where it is a message, unless it reads a port.
+// What is said to an event of this kind at once: it is answered where it is a message, unless it reads a port, `log` or
+// `jobs`.
 #[tactic(auto, using(crate::proofs::Saids::saying))]
 fn answer_message(
     alloc: Global,
@@ -112,6 +113,7 @@ fn answer_message(
             read(alloc, book, sessions, EventRead { fid, asker, at })
         }
         Some(Answer::ReadsPort { .. }) => Ok(Items::new(alloc)),
+        Some(Answer::ReadsWatch { .. }) => Ok(Items::new(alloc)),
     }
 }
 

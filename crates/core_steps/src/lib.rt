@@ -4,6 +4,7 @@
 mod acting;
 mod applying;
 mod files;
+mod following;
 mod growing;
 mod laws;
 mod ordering;

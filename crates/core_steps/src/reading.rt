@@ -42,6 +42,7 @@ fn port_read_in(conn: u32, tag: u16, answer: &Option<Answer>) -> Option<PortRead
                 count: *count,
             },
         }),
+        Some(Answer::ReadsWatch { .. }) => None,
         Some(Answer::Reads { .. }) => None,
         Some(Answer::Says(_)) => None,
         None => None,

@@ -21,10 +21,12 @@ use std::alloc::Global;
 pub(crate) struct Heard {
     /// To the reads that a freed fid ends.
     pub clunked: Responses,
-    /// To the message, unless it reads a port.
+    /// To the message, unless it reads a port, `log` or `jobs`.
     pub answered: Responses,
     /// To the message's read of a port.
     pub asked: Responses,
+    /// To the message's read of `log` or `jobs`.
+    pub followed: Responses,
     /// To the reads that the deletion of windows ends.
     pub deleted: Responses,
     /// To the waiting reads that can be answered, of all files.
@@ -83,6 +85,7 @@ fn is_answer_alone(heard: &Heard) -> bool
 {
     heard.clunked.is_empty()
         && heard.asked.is_empty()
+        && heard.followed.is_empty()
         && heard.deleted.is_empty()
         && heard.served.is_empty()
 }
@@ -98,6 +101,7 @@ fn all_of(heard: Heard) -> Result<Responses, NoMemory>
         clunked,
         answered,
         asked,
+        followed,
         deleted,
         served,
     } = heard;
@@ -106,6 +110,7 @@ fn all_of(heard: Heard) -> Result<Responses, NoMemory>
     }
     let said = joined(clunked, answered)?;
     let said = joined(said, asked)?;
+    let said = joined(said, followed)?;
     let said = joined(said, deleted)?;
     joined(said, served)
 }

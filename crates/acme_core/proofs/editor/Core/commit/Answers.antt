@@ -11,4 +11,4 @@ invariant_of-self c =
     kept_on c.deeds_show.ensures c.self.inside.format c.self.inside.events c.put.new.self c.self.inside.parts c.apply-event.new.parts
     c.in-Some.prepared c.apply-event.result c.take.new.self was c.apply-event.ensures.event c.put.ensures.items
     c.put.ensures.spare (c.apply-event.ensures.state _ was.ready.ready) c.apply-event.ensures.sound
-    c.apply-event.ensures.ports c.apply-event.ensures.steady c.take.ensures.after
+    c.apply-event.ensures.ports c.apply-event.ensures.watch c.apply-event.ensures.steady c.take.ensures.after
