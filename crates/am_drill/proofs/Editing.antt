@@ -31,6 +31,7 @@ use Rattle.core_scene.specs.Scenes.{no_scene}
 use Rattle.core_scene.specs.Told.{of_window}
 use Rattle.core_events.specs.Putting.{put_all, put_living, ending}
 use Rattle.core_events.specs.PortServing.{served_most as port_served_most, after_serving_most}
+use Rattle.core_watch.specs.Serving.{served_most as watch_served_most, after_serving_most as after_watch_serving}
 use Rattle.core_events.specs.Serving.{served_most, book_served_most, served_all, book_served_all}
 use Rattle.core_events.specs.Waits.{ended}
 use Rattle.event_book.specs.Lives.{fresh}
@@ -63,7 +64,7 @@ finished f story first items =
       entries = at;
       tables = ended (tables_with []) said;
       windows = Some story ∷ [];
-      scene = record no_scene { book = put_all (book_served_all at put) (ending [] items) };
+      scene = record (no_scene false) { book = put_all (book_served_all at put) (ending [] items) };
       unsent = put_replies (f.unsent ∷ replicate 63 nothing_unsent) (replies_of said);
       replies = replies_of said;
     }
@@ -117,7 +118,7 @@ write_doing f l ascii room =
 written_so : (f : Facts) (l : ℕ) → after_story (standing [] [] f) (present (standing [] [] f)) (write l)
     (written_doing f l)
     ≡ finished f (story_written f l) (response 0 4 (r.Write 1) ∷ []) (told E (end_edit f l))
-unfolding port_served_most after_serving_most task_deeds task_refusal task_held
+unfolding port_served_most after_serving_most watch_served_most after_watch_serving task_deeds task_refusal task_held
 written_so f l = refl
 
 abbrev pub letter_item : Origin → ℕ → ℕ → Item
@@ -139,11 +140,12 @@ finished_with : (f : Facts) (story : WindowStory) (first : List Response) (item 
       unsent = put_replies (f.unsent ∷ replicate 63 nothing_unsent) (replies_of (first ++ []));
       replies = replies_of (first ++ []);
     }
-unfolding served_most book_served_most port_served_most after_serving_most
+unfolding served_most book_served_most port_served_most after_serving_most watch_served_most after_watch_serving
 finished_with f story first item =
     ap (λ (files : List WindowFile). record (standing [] [] (with_item (gone_on f) story item)) {
       tables = ended (tables_with []) (first ++ []);
-      scene = record no_scene { book = record { files = files; owners = 1 ∷ []; reads = []; latest = f.latest } };
+      scene = record (no_scene false)
+          { book = record { files = files; owners = 1 ∷ []; reads = []; latest = f.latest } };
       unsent = put_replies (f.unsent ∷ replicate 63 nothing_unsent) (replies_of (first ++ []));
       replies = replies_of (first ++ []);
     }) (stays_listed (file_with f.items f.carry) (f.items ++ fresh item ∷ []) f.carry)
@@ -186,7 +188,7 @@ key_doing f l =
 
 typed_so : (f : Facts) (l : ℕ) → after_story (standing [] [] f) (present (standing [] [] f)) (key l) (typed_doing f l)
     ≡ finished f (story_typed f l) [] (told K (dot_edit f l) ++ [])
-unfolding port_served_most after_serving_most task_deeds task_refusal task_held
+unfolding port_served_most after_serving_most watch_served_most after_watch_serving task_deeds task_refusal task_held
 typed_so f l = refl
 
 pub key_step : (f : Facts) (l : ℕ) → (dot_of f).q0 ≡ (dot_of f).q1

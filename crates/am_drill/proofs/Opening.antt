@@ -1,6 +1,6 @@
 -- The events before the rounds, one after another.
-use Rattle.std.proofs.Common.{◌≡◌, ℕ, zero, suc, ◌+◌, ◌^◌, ◌<◌, true, List, [], ◌∷◌, length, refl, ap, ◌∙◌, arith}
-use Rattle.std.proofs.Common.{Option, Some, None}
+use Rattle.std.proofs.Common.{◌≡◌, ℕ, zero, suc, ◌+◌, ◌^◌, ◌<◌, true, false, List, [], ◌∷◌, length, refl, ap, ◌∙◌}
+use Rattle.std.proofs.Common.{arith, Option, Some, None}
 use Rattle.std.specs.Prelude.{codes, replicate, bytes_eq, if◌then◌else◌, All}
 use Rattle.std.specs.Str.{is_utf8, chars}
 use Rattle.std.specs.Char.{encode_utf8}
@@ -26,6 +26,7 @@ use Rattle.core_scene.specs.Scenes.{no_scene}
 use Rattle.plumb_ports.specs.PortList.{names_of}
 use Rattle.plumb_ports.specs.PortsState.{beginning}
 use Rattle.core_events.specs.PortServing.{served_most as port_served_most, after_serving_most}
+use Rattle.core_watch.specs.Serving.{served_most as watch_served_most, after_serving_most as after_watch_serving}
 use Rattle.core_events.specs.Serving.{served_most, book_served_most}
 use Rattle.core_windows.specs.Stories.{WindowStory, named_story, shown_windows}
 use Rattle.core_windows.specs.Windows.{world_of}
@@ -75,7 +76,7 @@ begun msize held windows book b = record {
   users = user_with held ∷ replicate 63 [];
   tables = record { format = One; sessions = record { conn = 0; msize = msize; fids = held } ∷ []; waiting = [] };
   windows = windows;
-  scene = record no_scene { book = book };
+  scene = record (no_scene false) { book = book };
   unsent = b.unsent ∷ replicate 63 nothing_unsent;
   replies = b.replies;
 }
@@ -106,12 +107,14 @@ abbrev pub dialed : Begun
 dialed = record { entries = 1; unsent = nothing_unsent; replies = [] }
 
 pub dial_step : step (start_of One) (event.Dial 0) ≡ begun None [] [] empty_book dialed
-unfolding step served_most book_served_most port_served_most after_serving_most task_deeds task_refusal task_held
+unfolding step served_most book_served_most port_served_most after_serving_most watch_served_most after_watch_serving
+    task_deeds task_refusal task_held
 dial_step = refl
 
 pub version_step : (b : Begun) → step (begun None [] [] empty_book b) version ≡ begun (Some 8192) [] [] empty_book
     (told b no_tag (r.Version 8192 (codes "9P2000")))
-unfolding step served_most book_served_most port_served_most after_serving_most task_deeds task_refusal task_held
+unfolding step served_most book_served_most port_served_most after_serving_most watch_served_most after_watch_serving
+    task_deeds task_refusal task_held
 version_step b = refl
 
 abbrev pub root_fids : List (ℕ × Fid)
@@ -119,7 +122,8 @@ root_fids = (0, fresh Root) ∷ []
 
 pub attach_step : (b : Begun) → step (begun (Some 8192) [] [] empty_book b) attach ≡ begun (Some 8192) root_fids []
     empty_book (told b 1 (r.Attach (qid_of Root)))
-unfolding step served_most book_served_most port_served_most after_serving_most task_deeds task_refusal task_held
+unfolding step served_most book_served_most port_served_most after_serving_most watch_served_most after_watch_serving
+    task_deeds task_refusal task_held
 attach_step b = refl
 
 abbrev pub new_story : WindowStory
@@ -131,8 +135,8 @@ walked_fids = (0, fresh Root) ∷ (1, fresh (File 1 file.Body)) ∷ []
 pub walk_body_step : (b : Begun) → step (begun (Some 8192) root_fids [] empty_book b) walk_body
     ≡ begun (Some 8192) walked_fids (Some new_story ∷ []) empty_book
     (told b 2 (r.Walk (qid_of NewDir ∷ qid_of (File 1 file.Body) ∷ [])))
-unfolding step served_most book_served_most port_served_most after_serving_most course walk_one entry_named file_named
-    entries task_deeds task_refusal task_held
+unfolding step served_most book_served_most port_served_most after_serving_most watch_served_most after_watch_serving
+    course walk_one entry_named file_named entries task_deeds task_refusal task_held
 walk_body_step b = refl
 
 abbrev pub opened_fids : List (ℕ × Fid)
@@ -140,8 +144,8 @@ opened_fids = (0, fresh Root) ∷ (1, body_fid) ∷ []
 
 pub open_body_step : (b : Begun) → step (begun (Some 8192) walked_fids (Some new_story ∷ []) empty_book b) open_body
     ≡ begun (Some 8192) opened_fids (Some new_story ∷ []) empty_book (told b 3 (r.Open (qid_of (File 1 file.Body)) 0))
-unfolding step served_most book_served_most port_served_most after_serving_most may_open task_deeds task_refusal
-    task_held
+unfolding step served_most book_served_most port_served_most after_serving_most watch_served_most after_watch_serving
+    may_open task_deeds task_refusal task_held
 open_body_step b = refl
 
 -- ---- the walk to window 1, whose name is a decimal
@@ -175,7 +179,8 @@ pub walk_event_step : (b : Begun) → step (begun (Some 8192) opened_fids (Some 
     ≡ begun (Some 8192) ((0, fresh Root) ∷ (1, body_fid) ∷ (2, fresh (File 1 file.Event)) ∷ []) (Some new_story ∷ [])
     empty_book
     (told b 2 (r.Walk (qid_of (Window 1) ∷ qid_of (File 1 file.Event) ∷ [])))
-unfolding step served_most book_served_most port_served_most after_serving_most task_deeds task_refusal task_held
+unfolding step served_most book_served_most port_served_most after_serving_most watch_served_most after_watch_serving
+    task_deeds task_refusal task_held
 walk_event_step b =
     let s : State = begun (Some 8192) opened_fids (Some new_story ∷ []) empty_book b in
     ap (λ (rest : Course). after_story s (present s) walk_event (message_doing (present s)
@@ -197,8 +202,8 @@ facts_of b = record {
 pub open_event_step : (b : Begun) → step (begun (Some 8192) ((0, fresh Root) ∷ (1, body_fid)
     ∷ (2, fresh (File 1 file.Event)) ∷ []) (Some new_story ∷ []) empty_book b) open_event
     ≡ standing [] [] (facts_of (told b 3 (r.Open (qid_of (File 1 file.Event)) 0)))
-unfolding step served_most book_served_most port_served_most after_serving_most may_open task_deeds task_refusal
-    task_held
+unfolding step served_most book_served_most port_served_most after_serving_most watch_served_most after_watch_serving
+    may_open task_deeds task_refusal task_held
 open_event_step b = refl
 
 -- ---- lawful

@@ -1,5 +1,5 @@
 -- The editor in a drill: what stands fixed from round to round, and the facts that change.
-use Rattle.std.specs.Prelude.{ℕ, List, [], ◌∷◌, codes, replicate, Some, None}
+use Rattle.std.specs.Prelude.{ℕ, false, List, [], ◌∷◌, codes, replicate, Some, None}
 use Rattle.fid_table.specs.declared.types.Fid.{Fid}
 use Rattle.fid_table.specs.declared.session.Waiting.{Waiting}
 use Rattle.fid_table.specs.Tables.{Tables}
@@ -66,7 +66,7 @@ standing waiting reads f = record {
   users = codes "u" ∷ replicate 63 [];
   tables = tables_with waiting;
   windows = Some f.story ∷ [];
-  scene = record no_scene { book = book_with reads f };
+  scene = record (no_scene false) { book = book_with reads f };
   unsent = f.unsent ∷ replicate 63 nothing_unsent;
   replies = f.replies;
 }

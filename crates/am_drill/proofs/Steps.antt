@@ -22,6 +22,7 @@ use Rattle.wait_queue.specs.declared.types.Piece.{Piece}
 use Rattle.core_scene.specs.Scenes.{no_scene}
 use Rattle.core_events.specs.declared.response.Response.{Response}
 use Rattle.core_events.specs.PortServing.{served_most as port_served_most, after_serving_most}
+use Rattle.core_watch.specs.Serving.{served_most as watch_served_most, after_serving_most as after_watch_serving}
 use Rattle.core_events.specs.Serving.{served_most, book_served_most, served_all, book_served_all}
 use Rattle.core_events.proofs.Turns.{all_none, book_all_none}
 use Rattle.core_events.specs.Asking.{said_to, waits_unless, book_asked}
@@ -49,16 +50,19 @@ abbrev pub shown : Facts → RBody
 shown f = r.Read (take 32 (drop 0 (utf8 (story_text f.story.body))))
 
 pub read_step : (f : Facts) → step (standing [] [] f) read ≡ standing [] [] (answered f 5 (shown f))
-unfolding step served_most book_served_most port_served_most after_serving_most task_deeds task_refusal task_held
+unfolding step served_most book_served_most port_served_most after_serving_most watch_served_most after_watch_serving
+    task_deeds task_refusal task_held
 read_step f = refl
 
 pub flush_step : (f : Facts) → step (standing [] [] f) flush ≡ standing [] [] (answered f 11 r.Flush)
-unfolding step served_most book_served_most port_served_most after_serving_most task_deeds task_refusal task_held
+unfolding step served_most book_served_most port_served_most after_serving_most watch_served_most after_watch_serving
+    task_deeds task_refusal task_held
 flush_step f = refl
 
 pub took_step : (f : Facts) → step (standing [] [] f) (event.Took 0) ≡ standing [] []
     (record f { entries = f.entries + 1; unsent = nothing_unsent; replies = [] })
-unfolding step served_most book_served_most port_served_most after_serving_most task_deeds task_refusal task_held
+unfolding step served_most book_served_most port_served_most after_serving_most watch_served_most after_watch_serving
+    task_deeds task_refusal task_held
 took_step f = refl
 
 -- ---- the event file
@@ -84,11 +88,11 @@ book_asked_as w f = book_asked false (asked_as w f) (book_with [] f) reader (f.e
 
 abbrev pub polled_with : Bool → Facts → List Response → BookState → State
 polled_with w f served book =
-    let said = ((if_said 0 10 1 (said_to false (asked_as w f)) ++ []) ++ []) ++ served in
+    let said = (((if_said 0 10 1 (said_to false (asked_as w f)) ++ []) ++ []) ++ []) ++ served in
     record (standing [] [] f) {
       entries = f.entries + 1;
       tables = ended (waits_unless (said_to false (asked_as w f)) (tables_with []) 0 10 2) said;
-      scene = record no_scene { book = book };
+      scene = record (no_scene false) { book = book };
       unsent = put_replies (f.unsent ∷ replicate 63 nothing_unsent) (replies_of said);
       replies = replies_of said;
     }
@@ -98,7 +102,8 @@ polled_as w f = polled_with w f (served_all (f.entries + 1) (book_asked_as w f))
     (book_served_all (f.entries + 1) (book_asked_as w f))
 
 polled : (f : Facts) → step (standing [] [] f) poll ≡ polled_as (waits f) f
-unfolding step port_served_most after_serving_most task_deeds task_refusal task_held
+unfolding step port_served_most after_serving_most watch_served_most after_watch_serving task_deeds task_refusal
+    task_held
 polled f = refl
 
 -- the event file after the read, by whether it waits
@@ -107,7 +112,7 @@ book_as w f = if w then record (book_with [] f) { reads = reader ∷ []; latest 
     (book_with [] f) reader (f.entries + 1)
 
 abbrev pub with_book : State → BookState → State
-with_book s book = record s { scene = record no_scene { book = book } }
+with_book s book = record s { scene = record (no_scene false) { book = book } }
 
 -- a Tflush, by what is served before it
 abbrev pub flushed_with : Facts → List Response → BookState → State
@@ -116,7 +121,7 @@ flushed_with f served book =
     record (standing [] [] f) {
       entries = f.entries + 1;
       tables = after_done (ended (tables_with (reading ∷ [])) said) 0 10;
-      scene = record no_scene { book = after_cancel book 0 10 };
+      scene = record (no_scene false) { book = after_cancel book 0 10 };
       unsent = put_replies (f.unsent ∷ replicate 63 nothing_unsent) (replies_of said);
       replies = replies_of said;
     }
@@ -124,7 +129,8 @@ flushed_with f served book =
 flushed : (f : Facts) → step (standing (reading ∷ []) (reader ∷ []) f) flush
     ≡ flushed_with f (served_all (f.entries + 1) (book_with (reader ∷ []) f))
     (book_served_all (f.entries + 1) (book_with (reader ∷ []) f))
-unfolding step port_served_most after_serving_most task_deeds task_refusal task_held
+unfolding step port_served_most after_serving_most watch_served_most after_watch_serving task_deeds task_refusal
+    task_held
 flushed f = refl
 
 -- a read that has to wait isn't served
@@ -165,7 +171,7 @@ pub poll_now_step : (f : Facts) → waits f ≡ false
     → step (standing [] [] f) poll
     ≡ with_book (standing [] [] (answered f 10 (r.Read (piece_for (book_with [] f) reader).bytes)))
     (after_answer (book_with [] f) reader (f.entries + 1))
-unfolding served_most book_served_most port_served_most after_serving_most
+unfolding served_most book_served_most port_served_most after_serving_most watch_served_most after_watch_serving
 poll_now_step f e =
     let asked : book_asked_as false f ≡ after_answer (book_with [] f) reader (f.entries + 1) =
     ap (λ (w : Bool). book_as w f) e in

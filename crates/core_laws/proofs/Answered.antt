@@ -3,7 +3,7 @@ use Rattle.std.proofs.Common.{◌≡◌, ◌⊎◌, inl, inr, ℕ, ◌+◌, Bool
 use Rattle.std.proofs.Common.{slice_index_or, Option, Some, None, All, refl, sym, ap, subst, ◌∙◌, append_assoc}
 use Rattle.std.proofs.Common.{append-nil, arith}
 use Rattle.std.specs.List.{list_any}
-use Rattle.std.proofs.lemmas.Bool.{both_ways, false_from_ne_true, true_from_ne_false, or_from}
+use Rattle.std.proofs.lemmas.Bool.{both_ways, false_from_ne_true, or_left}
 use Rattle.std.proofs.lemmas.Bool.Decides.{nat_tests}
 use Rattle.std.proofs.lemmas.List.Elements.{All-nil, All-append, All-weaker}
 use Rattle.std.proofs.lemmas.List.Folds.{list_any_at, list_any-append}
@@ -14,15 +14,17 @@ use Rattle.ninep_types.specs.declared.message.TMsg.{TMsg}
 use Rattle.ninep_types.specs.Spelling.{kind_t}
 use Rattle.fid_table.specs.declared.session.Waiting.{Waiting}
 use Rattle.fid_table.specs.Tables.{Tables, is_waiting}
-use Rattle.wait_queue.specs.Reads.{is_read}
 use Rattle.wait_queue.specs.declared.types.Asked.TheVariants.{Now, Waits}
 use Rattle.wait_queue.specs.declared.types.Asker.{Asker}
+use Rattle.wait_queue.specs.declared.types.Piece.{Piece}
+use Rattle.acme_watch.specs.Watching.{WatchState, read_waits as watch_waits, piece_for as watch_piece}
+use Rattle.acme_watch.specs.declared.types.WatchRead.{WatchRead}
 use Rattle.win_events.specs.declared.item.Origin.{Origin}
 use Rattle.event_book.specs.BookState.{BookState, is_living, read_waits, asked_of, piece_for}
 use Rattle.am_journal.specs.declared.event.Event.{Event}
 use Rattle.am_journal.specs.declared.event.Event.TheVariants as event
 use Rattle.core_fids.specs.declared.effect.Answer.{Answer}
-use Rattle.core_fids.specs.declared.effect.Answer.TheVariants.{Says, Reads, ReadsPort}
+use Rattle.core_fids.specs.declared.effect.Answer.TheVariants.{Says, Reads, ReadsPort, ReadsWatch}
 use Rattle.core_fids.specs.declared.effect.Demand.{Demand}
 use Rattle.core_fids.specs.declared.effect.Demand.TheVariants as demand
 use Rattle.core_fids.specs.declared.effect.Effect.{Effect}
@@ -30,9 +32,9 @@ use Rattle.core_fids.specs.declared.effect.Effect.TheVariants as effect
 use Rattle.core_fids.specs.declared.effect.EventChange.{EventChange}
 use Rattle.core_fids.specs.declared.effect.EventChange.TheVariants as events
 use Rattle.core_fids.specs.declared.effect.Reaction.{Reaction}
+use Rattle.core_fids.specs.declared.effect.WatchOpening.{WatchOpening}
 use Rattle.core_fids.specs.declared.refusal.Refusal.{Refusal}
 use Rattle.core_fids.specs.declared.refusal.Refusal.TheVariants as refusal
-use Rattle.core_fids.specs.Fids.{event_opening, port_opening}
 use Rattle.core_fids.specs.Plainly.{does}
 use Rattle.core_fids.specs.Refusals.{refusal_text}
 use Rattle.core_windows.specs.declared.change.Change.{Change}
@@ -48,6 +50,8 @@ use Rattle.core_events.specs.PortSound.{ArePortsIdle}
 use Rattle.core_events.proofs.PortIdles.{none_said, idle_read}
 use Rattle.core_events.specs.Waits.{clunked, deletions, ended}
 use Rattle.core_events.proofs.Idles.{AreIdle, read_idle, idle_for, idle_end}
+use Rattle.core_watch.specs.Asking.{read_refusal as watch_refusal, watch_said, watch_read}
+use Rattle.core_watch.specs.Serving.{watch_served}
 use Rattle.core_tasks.specs.Tasks.{task_deeds, task_refusal}
 use Rattle.core_parts.specs.declared.kind.Kind.TheVariants as kind
 use Rattle.core_intents.specs.Doings.{doing_of, entry_of, message_doing}
@@ -57,25 +61,32 @@ use Rattle.acme_core.specs.Laws.{HasAnswer, EachIsAnswered}
 use Rattle.core_intents.specs.Origins.{message_origin}
 use Rattle.acme_core.specs.Run.{step, run, present_after, enabled, AreEnabled}
 use Rattle.core_steps.specs.PortReads.{port_read_in, if_port_said, asked_said, asked_ports}
+use Rattle.core_steps.specs.WatchReads.{watch_asked, watch_read_in, if_watch_said, followed_said, followed_watch}
 use Rattle.core_steps.specs.Stages.{response, asker_of, if_said, answer_said, answer_book, acted, with_fid, read_tables}
-use Rattle.core_steps.specs.Stages.{grown_tables, read_book, put_book, open_ports, served, said, tables_after}
+use Rattle.core_steps.specs.Stages.{port_tables, grown_tables, read_book, put_book, open_ports, open_watch, served}
+use Rattle.core_steps.specs.Stages.{said, tables_after}
 use Rattle.core_steps.proofs.Orders.{all_asked, none_asked}
 use Rattle.core_parts.specs.States.{Present, State, present, next_entry}
 use Rattle.acme_core.proofs.Goes.{run-push}
-use Rattle.acme_core.proofs.Idling.{run_idle, ports_idle_after}
+use Rattle.acme_core.proofs.Idling.{run_idle, ports_idle_after, watch_still_after}
+use Rattle.acme_core.proofs.Watching.{IsStill, none_said as none_followed}
 use Rattle.core_steps.proofs.Idling.{silent}
-use Rattle.core_laws.specs.Answered.{IsAnswerTo, TellsAWait, SaysOnce, ReadsOnce, event_read, port_read, IsAnsweredBy}
-use Rattle.core_laws.specs.Answered.{MessagesAreAnswered}
+use Rattle.core_laws.specs.Answered.{IsAnswerTo, TellsAWait, SaysOnce, ReadsOnce, event_read, port_read}
+use Rattle.core_laws.specs.Answered.{watch_read as watch_reads, IsAnsweredBy, MessagesAreAnswered}
 use Rattle.core_laws.specs.Saying.{said_after, is_told}
-use Rattle.core_laws.specs.Waits.{WaitsAreTied}
-use Rattle.core_laws.proofs.Answering.{message_reads, message_reads_port}
+use Rattle.core_laws.proofs.Answering.{message_reads}
 use Rattle.core_laws.proofs.Books.{IsBook, book_opened, book_put_living}
 use Rattle.core_laws.proofs.Ports.{joined_reads, acted_reads}
 use Rattle.core_laws.proofs.Playing.{played_parts, played_first, no_items, silent_after, PlaysOn}
 use Rattle.core_laws.proofs.Reactions.{ReadsSane, IsSane}
-use Rattle.core_laws.proofs.Tells.{Reading, tell_clunked, tell_deletions, tell_served, tell_ports}
-use Rattle.core_laws.proofs.Tied.{on_version, tag_or_version, waits_tied}
-use Rattle.core_laws.proofs.Zips.{key_parts, none_asks}
+use Rattle.core_laws.proofs.Quiets.{IsQuiet, quiet_by}
+use Rattle.core_laws.proofs.Tells.{Reading, Following, tell_clunked, tell_deletions, tell_served, tell_ports}
+use Rattle.core_laws.proofs.Tells.{tell_follows}
+use Rattle.core_laws.proofs.Stills.{still_read}
+use Rattle.core_laws.proofs.Tied.{IsTiedState, tied_after}
+use Rattle.core_laws.proofs.Versions.{on_version, tag_or_version}
+use Rattle.core_laws.proofs.Watches.{acted_same, same_all, watches_all}
+use Rattle.core_laws.proofs.Zips.{key_parts}
 use Rattle.core_laws.proofs.Wells.{IsWell, opens_in, sane_in, well_after}
 use Rattle.am_journal.specs.declared.event.Journal.{Journal}
 
@@ -84,75 +95,78 @@ use Rattle.am_journal.specs.declared.event.Journal.{Journal}
 same_key : (conn tag : ℕ) → (eqb conn conn && eqb tag tag) ≡ true
 same_key conn tag = grind (arith, nat_tests)
 
-or_second : (a b : Bool) → b ≡ true → (a || b) ≡ true
-or_second true b h = refl
-or_second false b h = h
-
-or_first : (a b : Bool) → a ≡ true → (a || b) ≡ true
-or_first true b h = refl
-or_first false b h = absurd cc
-
--- a read with this tag waits on this connection, in one of the three lists
-abbrev waits_with : State → ℕ → ℕ → Bool
-waits_with s conn tag = list_any (is_waiting conn tag) s.tables.waiting
-    || (list_any (is_read conn tag) s.scene.book.reads || list_any (is_read conn tag) s.scene.ports.reads)
-
 abbrev Waited : State → ℕ → ℕ → Type 0
-Waited s conn tag = waits_with s conn tag ≡ true
+Waited s conn tag = list_any (is_waiting conn tag) s.tables.waiting ≡ true
 
 waiting_waits : (s : State) → All (λ (w : Waiting). Waited s w.conn w.tag) s.tables.waiting
 waiting_waits s k d h =
     let w : Waiting = slice_index_or s.tables.waiting k d in
-    or_first (list_any (is_waiting w.conn w.tag) s.tables.waiting)
-    (list_any (is_read w.conn w.tag) s.scene.book.reads || list_any (is_read w.conn w.tag) s.scene.ports.reads)
-    (list_any_at (is_waiting w.conn w.tag) s.tables.waiting k d h (same_key w.conn w.tag))
+    list_any_at (is_waiting w.conn w.tag) s.tables.waiting k d h (same_key w.conn w.tag)
 
-reading_waits : (s : State) → All (λ (x : Asker). Waited s x.conn x.tag) s.scene.book.reads
-reading_waits s k d h =
-    let x : Asker = slice_index_or s.scene.book.reads k d in
-    or_second (list_any (is_waiting x.conn x.tag) s.tables.waiting)
-    (list_any (is_read x.conn x.tag) s.scene.book.reads || list_any (is_read x.conn x.tag) s.scene.ports.reads)
-    (or_first (list_any (is_read x.conn x.tag) s.scene.book.reads) (list_any (is_read x.conn x.tag) s.scene.ports.reads)
-    (list_any_at (is_read x.conn x.tag) s.scene.book.reads k d h (same_key x.conn x.tag)))
+-- those of the files are those of the sessions
+all_waited : (s : State) → IsTiedState s → IsQuiet (Waited s) s
+all_waited s tied = quiet_by (Waited s) s tied.0 (waiting_waits s)
 
-porting_waits : (s : State) → All (λ (x : Asker). Waited s x.conn x.tag) s.scene.ports.reads
-porting_waits s k d h =
-    let x : Asker = slice_index_or s.scene.ports.reads k d in
-    or_second (list_any (is_waiting x.conn x.tag) s.tables.waiting)
-    (list_any (is_read x.conn x.tag) s.scene.book.reads || list_any (is_read x.conn x.tag) s.scene.ports.reads)
-    (or_second (list_any (is_read x.conn x.tag) s.scene.book.reads)
-    (list_any (is_read x.conn x.tag) s.scene.ports.reads)
-    (list_any_at (is_read x.conn x.tag) s.scene.ports.reads k d h (same_key x.conn x.tag)))
+-- ---- between entries
+
+-- no items are left, and no read that waits can be answered
+record IsAtRest (s : State) : Type 0 where
+  items : s.scene.items ≡ []
+  events : AreIdle [] s.entries s.scene.book
+  ports : ArePortsIdle s.scene.ports
+  watch : IsStill s.scene.watch
+
+at_rest : (before : Journal) → IsAtRest (run before)
+at_rest before = record {
+  items = no_items before;
+  events = run_idle before;
+  ports = ports_idle_after before;
+  watch = watch_still_after before;
+}
 
 -- ---- what is said besides the answer
 
-waited_book : (s : State) → AreIdle [] s.entries s.scene.book → IsBook (Reading (Waited s)) (next_entry (present s))
-    s.scene.book
-waited_book s idle = record { lawful = idle.lawful; latest = omega (arith, idle.latest); reads = reading_waits s }
+waited_book : (s : State) → IsAtRest s → IsQuiet (Waited s) s
+    → IsBook (Reading (Waited s)) (next_entry (present s)) s.scene.book
+waited_book s rest quiet =
+    let idle : AreIdle [] s.entries s.scene.book = rest.events in
+    record { lawful = idle.lawful; latest = omega (arith, idle.latest); reads = quiet.1 }
 
-waited_put : (s : State) (conn tag : ℕ) (d : Doing) (body : RBody) → d.answer ≡ Some (Says body)
-    → AreIdle [] s.entries s.scene.book
+waited_put : (s : State) (conn tag : ℕ) (d : Doing) (body : RBody) → d.answer ≡ Some (Says body) → IsAtRest s
+    → IsQuiet (Waited s) s
     → IsBook (Reading (Waited s)) (next_entry (present s)) (put_book (present s) (kind.Asks conn tag) d)
-waited_put s conn tag d body is idle =
+waited_put s conn tag d body is rest quiet =
     let p : Present = present s in
     let read : BookState = read_book p (kind.Asks conn tag) d in
     let same : read ≡ s.scene.book = ap (λ (a : Option Answer). answer_book (with_fid p (kind.Asks conn tag) d)
     s.scene.book conn tag a (next_entry p)) is in
     let book : IsBook (Reading (Waited s)) (next_entry p) read = subst (IsBook (Reading (Waited s)) (next_entry p))
-    (sym same) (waited_book s idle) in
+    (sym same) (waited_book s rest quiet) in
     book_put_living (Reading (Waited s)) (next_entry p) (deleted_by d.deeds) (opened read d.events) (acted p d).items
     (book_opened (Reading (Waited s)) (next_entry p) read d.events book)
 
 waited_open : (s : State) (conn tag : ℕ) (d : Doing) (body : RBody) → d.answer ≡ Some (Says body)
-    → All (Reading (Waited s)) (open_ports (present s) (kind.Asks conn tag) d).reads
-waited_open s conn tag d body is =
+    → IsQuiet (Waited s) s → All (Reading (Waited s)) (open_ports (present s) (kind.Asks conn tag) d).reads
+waited_open s conn tag d body is quiet =
     let p : Present = present s in
     let k = kind.Asks conn tag in
     let own : Asker → Type 0 = Reading (Waited s) in
     joined_reads own (asked_ports (read_tables p k d) (acted p d).ports (port_read_in conn tag d.answer)) d.events
     (subst (λ (a : Option Answer). All own (asked_ports (read_tables p k d) (acted p d).ports
     (port_read_in conn tag a)).reads) (sym is)
-    (acted_reads own (entry_of p d) p.scene d.deeds (porting_waits s)))
+    (acted_reads own (entry_of p d) p.scene d.deeds quiet.2))
+
+waited_watch : (s : State) (conn tag : ℕ) (d : Doing) (body : RBody) → d.answer ≡ Some (Says body)
+    → IsQuiet (Waited s) s → All (Following (Waited s)) (open_watch (present s) (kind.Asks conn tag) d).reads
+waited_watch s conn tag d body is quiet =
+    let p : Present = present s in
+    let k = kind.Asks conn tag in
+    let w : WatchState = (acted p d).watch in
+    let own : WatchRead → Type 0 = Following (Waited s) in
+    watches_all own (followed_watch (port_tables p k d) w (watch_read_in conn tag d.answer (next_entry p))) d.events
+    (subst (λ (a : Option Answer). All own (followed_watch (port_tables p k d) w
+    (watch_read_in conn tag a (next_entry p))).reads) (sym is)
+    (same_all own s.scene.watch w (acted_same (entry_of p d) p.scene d.deeds) quiet.3))
 
 -- what is said before the answer, and behind it
 abbrev front_of : Present → ℕ → Doing → List Response
@@ -160,21 +174,6 @@ front_of s conn d = clunked s.tables conn d.effect
 
 abbrev rest_of : Present → ℕ → ℕ → Doing → List Response
 rest_of s conn tag d = deletions s.tables (deleted_by d.deeds) ++ served s (kind.Asks conn tag) d
-
--- the event files and the ports have no others than the sessions
-waited_there : (s : State) (conn tag : ℕ) → WaitsAreTied s → Waited s conn tag
-    → list_any (is_waiting conn tag) s.tables.waiting ≡ true
-waited_there s conn tag tied waits =
-    true_from_ne_false (list_any (is_waiting conn tag) s.tables.waiting) (λ none. both_ways (waits_with s conn tag)
-    (or_from (list_any (is_waiting conn tag) s.tables.waiting) (list_any (is_read conn tag) s.scene.book.reads
-    || list_any (is_read conn tag) s.scene.ports.reads) none
-    (or_from (list_any (is_read conn tag) s.scene.book.reads) (list_any (is_read conn tag) s.scene.ports.reads)
-    (none_asks event_opening s.tables conn tag s.tables.waiting s.scene.book.reads tied.events none)
-    (none_asks port_opening s.tables conn tag s.tables.waiting s.scene.ports.reads tied.ports none)))
-    waits)
-
-abbrev TellsAny : State → Response → Type 0
-TellsAny s x = Waited s x.conn x.message.tag
 
 -- with a tag that no read has which waits, or where nothing else is said
 abbrev IsAlone : State → ℕ → ℕ → Doing → Type 0
@@ -198,37 +197,38 @@ none_told s conn tag d (inl none) others = All-weaker (TellsAWait s) (λ x. is_t
 none_told s conn tag d (inr empty) others = subst (All (λ (x : Response). is_told conn tag x ≡ false)) (sym empty)
     (All-nil (λ (x : Response). is_told conn tag x ≡ false))
 
-says_once : (s : State) (conn tag : ℕ) (d : Doing) (body : RBody) → WaitsAreTied s → d.answer ≡ Some (Says body)
-    → AreIdle [] s.entries s.scene.book → IsAlone s conn tag d
+says_once : (s : State) (conn tag : ℕ) (d : Doing) (body : RBody) → IsTiedState s → d.answer ≡ Some (Says body)
+    → IsAtRest s → IsAlone s conn tag d
     → SaysOnce s conn tag body (said (present s) (kind.Asks conn tag) d)
-says_once s conn tag d body tied is idle alone =
+says_once s conn tag d body tied is rest alone =
     let p : Present = present s in
     let k = kind.Asks conn tag in
+    let at : ℕ = next_entry p in
+    let quiet : IsQuiet (Waited s) s = all_waited s tied in
     let front : List Response = clunked s.tables conn d.effect in
     let gone : List Response = deletions s.tables (deleted_by d.deeds) in
     let later : List Response = served p k d in
     let one : List Response = front ++ response conn tag body ∷ [] in
-    let told_gone : All (TellsAny s) gone = tell_deletions (Waited s) s.tables (deleted_by d.deeds) (waiting_waits s) in
-    let told_later : All (TellsAny s) later =
-    all_asked (TellsAny s) (grown_tables p k d) (served_all (next_entry p) (put_book p k d))
-    (ports_served (open_ports p k d))
-    (tell_served (Waited s) (next_entry p) (put_book p k d) (waited_put s conn tag d body is idle))
-    (tell_ports (Waited s) (open_ports p k d) (waited_open s conn tag d body is))
+    let told_gone : All (TellsAWait s) gone = tell_deletions (Waited s) s.tables (deleted_by d.deeds) (waiting_waits s)
     in
-    let any : All (TellsAny s) (front ++ (gone ++ later)) =
-    All-append (TellsAny s) front (gone ++ later) (tell_clunked (Waited s) s.tables conn d.effect (waiting_waits s))
-    (All-append (TellsAny s) gone later told_gone told_later)
+    let told_later : All (TellsAWait s) later =
+    all_asked (TellsAWait s) (grown_tables p k d) (served_all at (put_book p k d)) (ports_served (open_ports p k d))
+    (watch_served at (open_watch p k d))
+    (tell_served (Waited s) at (put_book p k d) (waited_put s conn tag d body is rest quiet))
+    (tell_ports (Waited s) (open_ports p k d) (waited_open s conn tag d body is quiet))
+    (tell_follows (Waited s) at (open_watch p k d) (waited_watch s conn tag d body is quiet))
     in
     let others : All (TellsAWait s) (front ++ (gone ++ later)) =
-    All-weaker (TellsAny s) (TellsAWait s) (λ x waits. waited_there s x.conn x.message.tag tied waits)
-    (front ++ (gone ++ later)) any
+    All-append (TellsAWait s) front (gone ++ later) (tell_clunked (Waited s) s.tables conn d.effect (waiting_waits s))
+    (All-append (TellsAWait s) gone later told_gone told_later)
     in
     record {
       front = front;
       rest = gone ++ later;
       is = ap (λ (a : Option Answer). front ++ answer_said (with_fid p k d) s.scene.book conn tag a
-          ++ asked_said (read_tables p k d) (acted p d).ports (port_read_in conn tag a) ++ gone ++ later) is
-          ∙ ap (λ (xs : List Response). xs ++ gone ++ later) (append-nil one)
+          ++ asked_said (read_tables p k d) (acted p d).ports (port_read_in conn tag a)
+          ++ followed_said (port_tables p k d) (acted p d).watch (watch_read_in conn tag a at) ++ gone ++ later) is
+          ∙ ap (λ (xs : List Response). xs ++ gone ++ later) (append-nil (one ++ []) ∙ append-nil one)
           ∙ append_assoc one gone later
           ∙ append_assoc front (response conn tag body ∷ []) (gone ++ later);
       once = none_told s conn tag d alone others;
@@ -328,20 +328,24 @@ read_served s t x idle none =
     (idle_for [] s.entries at s.scene.book (omega arith) idle) in
     silent at [] (book_read t s.scene.book x at) s.scene.items (idle_end at (book_read t s.scene.book x at) read) none
 
-plain_said : (s : State) (o : Origin) (conn tag fid opening count : ℕ) → AreIdle [] s.entries s.scene.book
-    → ArePortsIdle s.scene.ports → s.scene.items ≡ []
+plain_said : (s : State) (o : Origin) (conn tag fid opening count : ℕ) → IsAtRest s
     → said (present s) (kind.Asks conn tag) (plain_read (present s) o fid opening count) ≡ if_said conn tag opening
     (read_said s.tables s.scene.book (asker_of conn tag opening count))
 unfolding task_deeds task_refusal
-plain_said s o conn tag fid opening count idle ports none =
+plain_said s o conn tag fid opening count rest =
     let x : Asker = asker_of conn tag opening count in
     let at : ℕ = next_entry (present s) in
     let own : List Response = if_said conn tag opening (read_said s.tables s.scene.book x) in
-    ap (λ (xs : List Response). own ++ [] ++ [] ++ xs)
+    ap (λ (xs : List Response). own ++ [] ++ [] ++ [] ++ xs)
     (none_asked (grown_tables (present s) (kind.Asks conn tag) (plain_read (present s) o fid opening count))
     (served_all at (put_living [] (book_read s.tables s.scene.book x at) s.scene.items)) (ports_served s.scene.ports)
-    (read_served s s.tables x idle none) (none_said s.scene.ports ports))
-    ∙ append-nil (own ++ [] ++ []) ∙ append-nil (own ++ []) ∙ append-nil own
+    (watch_served at s.scene.watch) (read_served s s.tables x rest.events rest.items)
+    (none_said s.scene.ports rest.ports) (none_followed at s.scene.watch rest.watch.idle))
+    ∙ append-nil (own ++ [] ++ [] ++ []) ∙ append-nil (own ++ [] ++ []) ∙ append-nil (own ++ []) ∙ append-nil own
+
+or_second : (a b : Bool) → b ≡ true → (a || b) ≡ true
+or_second true b h = refl
+or_second false b h = h
 
 -- one that waits is among those that do
 one_waits : (t : Tables) (conn tag fid : ℕ) → list_any (is_waiting conn tag)
@@ -349,7 +353,7 @@ one_waits : (t : Tables) (conn tag fid : ℕ) → list_any (is_waiting conn tag)
 one_waits t conn tag fid =
     list_any-append (is_waiting conn tag) t.waiting (record { conn = conn; tag = tag; fid = fid } ∷ [])
     ∙ or_second (list_any (is_waiting conn tag) t.waiting) ((eqb conn conn && eqb tag tag) || false)
-    (or_first (eqb conn conn && eqb tag tag) false (same_key conn tag))
+    (or_left (eqb conn conn && eqb tag tag) false (same_key conn tag))
 
 -- nothing is said to one that must wait
 waits_for : (b : BookState) (x : Asker) (full waits : Bool) → said_to full
@@ -364,16 +368,15 @@ must_wait_for : (t : Tables) (b : BookState) (x : Asker) (living : Bool)
 must_wait_for t b x true h = waits_for b x (reads_are_full t x.conn) (read_waits b x) h
 must_wait_for t b x false h = absurd cc
 
-plain_waits : (s : State) (o : Origin) (conn tag fid opening count : ℕ) → AreIdle [] s.entries s.scene.book
-    → ArePortsIdle s.scene.ports → s.scene.items ≡ []
+plain_waits : (s : State) (o : Origin) (conn tag fid opening count : ℕ) → IsAtRest s
     → read_said s.tables s.scene.book (asker_of conn tag opening count) ≡ None
     → list_any (is_waiting conn tag) (tables_after (present s) (kind.Asks conn tag)
     (plain_read (present s) o fid opening count)).waiting ≡ true
 unfolding task_deeds task_refusal
-plain_waits s o conn tag fid opening count idle ports none waits =
+plain_waits s o conn tag fid opening count rest waits =
     let x : Asker = asker_of conn tag opening count in
     let d : Doing = plain_read (present s) o fid opening count in
-    let quiet : said (present s) (kind.Asks conn tag) d ≡ [] = plain_said s o conn tag fid opening count idle ports none
+    let quiet : said (present s) (kind.Asks conn tag) d ≡ [] = plain_said s o conn tag fid opening count rest
     ∙ ap (if_said conn tag opening) waits in
     let has : Tables → Type 0 = λ t. list_any (is_waiting conn tag) t.waiting ≡ true in
     let there : has (waits_unless None s.tables conn tag fid) = one_waits s.tables conn tag fid in
@@ -419,7 +422,7 @@ read_by before conn msg o fid opening count (Some body) asks does is =
     let s : State = run before in
     let all : said_after before (event.Msg conn msg) ≡ if_said conn msg.tag opening (Some body) =
     ap (said (present s) (kind.Asks conn msg.tag)) does ∙ plain_said s o conn msg.tag fid opening count
-    (run_idle before) (ports_idle_after before) (no_items before) ∙ ap (if_said conn msg.tag opening) is
+    (at_rest before) ∙ ap (if_said conn msg.tag opening) is
     in (
       read_answers msg.body s.tables s.scene.book (asker_of conn msg.tag opening count) (is_living s.scene.book opening)
           body asks is,
@@ -431,12 +434,11 @@ read_by before conn msg o fid opening count None asks does is =
     let has : Tables → Type 0 = λ t. list_any (is_waiting conn msg.tag) t.waiting ≡ true in
     let left : has (tables_after (present s) (kind.Asks conn msg.tag) (doing_of (present s) e)) =
     subst (λ (d : Doing). has (tables_after (present s) (kind.Asks conn msg.tag) d)) (sym does)
-    (plain_waits s o conn msg.tag fid opening count (run_idle before) (ports_idle_after before) (no_items before)
-    is)
+    (plain_waits s o conn msg.tag fid opening count (at_rest before) is)
     in
     record {
       silent = ap (said (present s) (kind.Asks conn msg.tag)) does
-          ∙ plain_said s o conn msg.tag fid opening count (run_idle before) (ports_idle_after before) (no_items before)
+          ∙ plain_said s o conn msg.tag fid opening count (at_rest before)
           ∙ ap (if_said conn msg.tag opening) is;
       waits = subst (λ (t : State). has t.tables) (sym (run-push before e))
           (subst has (sym (stepped_tables s conn msg)) left);
@@ -454,7 +456,7 @@ reads_by before conn msg fid opening count well asks is =
     let p : Present = present s in
     let d : Reaction = reaction_at p conn msg in
     let o : Origin = message_origin s.tables conn msg.body in
-    let same : d.answer ≡ Reads fid opening count = message_reads p d o fid opening count is in
+    let same : d.answer ≡ Reads fid opening count = message_reads p d o (Reads fid opening count) refl is in
     let sane : IsSane (opens_in p) s.tables conn d = sane_in s conn msg well in
     let reads : ReadsSane s.tables conn d (Reads fid opening count) = subst (ReadsSane s.tables conn d) same sane.1 in
     read_by before conn msg o fid opening count (read_said s.tables s.scene.book (asker_of conn msg.tag opening count))
@@ -467,56 +469,55 @@ reads_by before conn msg fid opening count well asks is =
 abbrev plain_port : Present → Origin → ℕ → ℕ → ℕ → Doing
 plain_port s o fid opening count = plainly s o (ReadsPort fid opening count)
 
-port_said_now : (s : State) (o : Origin) (conn tag fid opening count : ℕ) → AreIdle [] s.entries s.scene.book
-    → ArePortsIdle s.scene.ports → s.scene.items ≡ []
+port_said_now : (s : State) (o : Origin) (conn tag fid opening count : ℕ) → IsAtRest s
     → said (present s) (kind.Asks conn tag) (plain_port (present s) o fid opening count)
     ≡ if_port_said (asker_of conn tag opening count) (port_said s.tables s.scene.ports
     (asker_of conn tag opening count))
 unfolding task_deeds task_refusal
-port_said_now s o conn tag fid opening count idle ports none =
+port_said_now s o conn tag fid opening count rest =
     let x : Asker = asker_of conn tag opening count in
     let own : List Response = if_port_said x (port_said s.tables s.scene.ports x) in
     let after : PortsState = ports_read s.tables s.scene.ports x in
     let at : ℕ = next_entry (present s) in
-    ap (λ (xs : List Response). own ++ [] ++ xs)
+    ap (λ (xs : List Response). own ++ [] ++ [] ++ xs)
     (none_asked (grown_tables (present s) (kind.Asks conn tag) (plain_port (present s) o fid opening count))
-    (served_all at (put_living [] s.scene.book s.scene.items)) (ports_served after)
-    (silent at [] s.scene.book s.scene.items (idle_end s.entries s.scene.book idle) none)
-    (none_said after (idle_read s.tables s.scene.ports x ports)))
-    ∙ append-nil (own ++ []) ∙ append-nil own
+    (served_all at (put_living [] s.scene.book s.scene.items)) (ports_served after) (watch_served at s.scene.watch)
+    (silent at [] s.scene.book s.scene.items (idle_end s.entries s.scene.book rest.events) rest.items)
+    (none_said after (idle_read s.tables s.scene.ports x rest.ports))
+    (none_followed at s.scene.watch rest.watch.idle))
+    ∙ append-nil (own ++ [] ++ []) ∙ append-nil (own ++ []) ∙ append-nil own
 
 -- one to which nothing is said must wait
-port_must : (s : PortsState) (x : Asker) (refusal : Option Refusal) (waits : Bool)
-    → said_unless refusal (cond waits Waits (Now (port_piece s x))) ≡ None → waits ≡ true
-port_must s x (Some refusal) waits h = absurd cc
-port_must s x None true h = refl
-port_must s x None false h = absurd cc
+must_wait : (piece : Piece) (refusal : Option Refusal) (waits : Bool)
+    → said_unless refusal (cond waits Waits (Now piece)) ≡ None → waits ≡ true
+must_wait piece (Some refusal) waits h = absurd cc
+must_wait piece None true h = refl
+must_wait piece None false h = absurd cc
 
-port_waits_on : (s : State) (o : Origin) (conn tag fid opening count : ℕ) → AreIdle [] s.entries s.scene.book
-    → ArePortsIdle s.scene.ports → s.scene.items ≡ []
+port_waits_on : (s : State) (o : Origin) (conn tag fid opening count : ℕ) → IsAtRest s
     → port_said s.tables s.scene.ports (asker_of conn tag opening count) ≡ None
     → list_any (is_waiting conn tag) (tables_after (present s) (kind.Asks conn tag)
     (plain_port (present s) o fid opening count)).waiting ≡ true
 unfolding task_deeds task_refusal
-port_waits_on s o conn tag fid opening count idle ports none waits =
+port_waits_on s o conn tag fid opening count rest waits =
     let x : Asker = asker_of conn tag opening count in
     let d : Doing = plain_port (present s) o fid opening count in
-    let quiet : said (present s) (kind.Asks conn tag) d ≡ [] = port_said_now s o conn tag fid opening count idle ports
-    none ∙ ap (if_port_said x) waits in
+    let quiet : said (present s) (kind.Asks conn tag) d ≡ [] = port_said_now s o conn tag fid opening count rest
+    ∙ ap (if_port_said x) waits in
     let has : Tables → Type 0 = λ t. list_any (is_waiting conn tag) t.waiting ≡ true in
     subst (λ (xs : List Response). has (ended (waits_unless (port_said s.tables s.scene.ports x) s.tables conn tag fid)
     xs)) (sym quiet)
     (subst (λ (o : Option RBody). has (waits_unless o s.tables conn tag fid)) (sym waits)
     (one_waits s.tables conn tag fid))
 
-port_answers : (asked : TBody) (s : PortsState) (x : Asker) (refusal : Option Refusal) (waits : Bool) (body : RBody)
+unless_answers : (asked : TBody) (piece : Piece) (refusal : Option Refusal) (waits : Bool) (body : RBody)
     → kind_t asked ≡ 116
-    → said_unless refusal (cond waits Waits (Now (port_piece s x))) ≡ Some body → IsAnswerTo asked body
-port_answers asked s x (Some refusal) waits body tread is = let same : r.Error (refusal_text refusal) ≡ body = cc in
+    → said_unless refusal (cond waits Waits (Now piece)) ≡ Some body → IsAnswerTo asked body
+unless_answers asked piece (Some refusal) waits body tread is = let same : r.Error (refusal_text refusal) ≡ body = cc in
     inr (refusal, sym same)
-port_answers asked s x None true body tread is = absurd cc
-port_answers asked s x None false body tread is =
-    let same : r.Read (port_piece s x).bytes ≡ body = cc in subst (IsAnswerTo asked) same
+unless_answers asked piece None true body tread is = absurd cc
+unless_answers asked piece None false body tread is =
+    let same : r.Read piece.bytes ≡ body = cc in subst (IsAnswerTo asked) same
     (inl (ap (λ (n : ℕ). n + 1) (sym tread)))
 
 port_by : (before : Journal) (conn : ℕ) (msg : TMsg) (o : Origin) (fid opening count : ℕ) (said_now : Option RBody)
@@ -529,10 +530,10 @@ port_by before conn msg o fid opening count (Some body) asks does is =
     let x : Asker = asker_of conn msg.tag opening count in
     let all : said_after before (event.Msg conn msg) ≡ if_port_said x (Some body) =
     ap (said (present s) (kind.Asks conn msg.tag)) does ∙ port_said_now s o conn msg.tag fid opening count
-    (run_idle before) (ports_idle_after before) (no_items before) ∙ ap (if_port_said x) is
+    (at_rest before) ∙ ap (if_port_said x) is
     in (
-      port_answers msg.body s.scene.ports x (read_refusal s.tables s.scene.ports x) (port_waits s.scene.ports x) body
-          asks is,
+      unless_answers msg.body (port_piece s.scene.ports x) (read_refusal s.tables s.scene.ports x)
+          (port_waits s.scene.ports x) body asks is,
       all,
     )
 port_by before conn msg o fid opening count None asks does is =
@@ -542,15 +543,15 @@ port_by before conn msg o fid opening count None asks does is =
     let has : Tables → Type 0 = λ t. list_any (is_waiting conn msg.tag) t.waiting ≡ true in
     let left : has (tables_after (present s) (kind.Asks conn msg.tag) (doing_of (present s) e)) =
     subst (λ (d : Doing). has (tables_after (present s) (kind.Asks conn msg.tag) d)) (sym does)
-    (port_waits_on s o conn msg.tag fid opening count (run_idle before) (ports_idle_after before) (no_items before) is)
+    (port_waits_on s o conn msg.tag fid opening count (at_rest before) is)
     in
     record {
       silent = ap (said (present s) (kind.Asks conn msg.tag)) does
-          ∙ port_said_now s o conn msg.tag fid opening count (run_idle before) (ports_idle_after before)
-          (no_items before) ∙ ap (if_port_said x) is;
+          ∙ port_said_now s o conn msg.tag fid opening count (at_rest before) ∙ ap (if_port_said x) is;
       waits = subst (λ (t : State). has t.tables) (sym (run-push before e))
           (subst has (sym (stepped_tables s conn msg)) left);
-      must = port_must s.scene.ports x (read_refusal s.tables s.scene.ports x) (port_waits s.scene.ports x) is;
+      must = must_wait (port_piece s.scene.ports x) (read_refusal s.tables s.scene.ports x)
+          (port_waits s.scene.ports x) is;
     }
 
 reads_port_by : (before : Journal) (conn : ℕ) (msg : TMsg) (fid opening count : ℕ) → IsWell (run before)
@@ -563,7 +564,7 @@ reads_port_by before conn msg fid opening count well asks is =
     let p : Present = present s in
     let d : Reaction = reaction_at p conn msg in
     let o : Origin = message_origin s.tables conn msg.body in
-    let same : d.answer ≡ ReadsPort fid opening count = message_reads_port p d o fid opening count is in
+    let same : d.answer ≡ ReadsPort fid opening count = message_reads p d o (ReadsPort fid opening count) refl is in
     let sane : IsSane (opens_in p) s.tables conn d = sane_in s conn msg well in
     let reads : ReadsSane s.tables conn d (ReadsPort fid opening count) = subst (ReadsSane s.tables conn d) same
     sane.1 in
@@ -572,10 +573,102 @@ reads_port_by before conn msg fid opening count well asks is =
     (reading p o d.effect d.events d.changes d.demand d.answer (ReadsPort fid opening count) reads.0 reads.2 reads.3
     reads.4 same) refl
 
+-- ---- a read of `log` or of `jobs`
+
+abbrev plain_watch : Present → Origin → ℕ → WatchOpening → ℕ → Doing
+plain_watch s o fid opening count = plainly s o (ReadsWatch fid opening count)
+
+watch_said_now : (s : State) (o : Origin) (conn tag fid : ℕ) (opening : WatchOpening) (count : ℕ) → IsAtRest s
+    → said (present s) (kind.Asks conn tag) (plain_watch (present s) o fid opening count)
+    ≡ if_watch_said (watch_asked conn tag opening count) (watch_said s.tables s.scene.watch
+    (watch_asked conn tag opening count))
+unfolding task_deeds task_refusal
+watch_said_now s o conn tag fid opening count rest =
+    let x : WatchRead = watch_asked conn tag opening count in
+    let own : List Response = if_watch_said x (watch_said s.tables s.scene.watch x) in
+    let at : ℕ = next_entry (present s) in
+    let after : WatchState = watch_read s.tables s.scene.watch x at in
+    ap (λ (xs : List Response). own ++ [] ++ xs)
+    (none_asked (grown_tables (present s) (kind.Asks conn tag) (plain_watch (present s) o fid opening count))
+    (served_all at (put_living [] s.scene.book s.scene.items)) (ports_served s.scene.ports) (watch_served at after)
+    (silent at [] s.scene.book s.scene.items (idle_end s.entries s.scene.book rest.events) rest.items)
+    (none_said s.scene.ports rest.ports)
+    (none_followed at after (still_read s.tables s.scene.watch x at rest.watch)))
+    ∙ append-nil (own ++ []) ∙ append-nil own
+
+watch_waits_on : (s : State) (o : Origin) (conn tag fid : ℕ) (opening : WatchOpening) (count : ℕ) → IsAtRest s
+    → watch_said s.tables s.scene.watch (watch_asked conn tag opening count) ≡ None
+    → list_any (is_waiting conn tag) (tables_after (present s) (kind.Asks conn tag)
+    (plain_watch (present s) o fid opening count)).waiting ≡ true
+unfolding task_deeds task_refusal
+watch_waits_on s o conn tag fid opening count rest waits =
+    let x : WatchRead = watch_asked conn tag opening count in
+    let d : Doing = plain_watch (present s) o fid opening count in
+    let quiet : said (present s) (kind.Asks conn tag) d ≡ [] = watch_said_now s o conn tag fid opening count rest
+    ∙ ap (if_watch_said x) waits in
+    let has : Tables → Type 0 = λ t. list_any (is_waiting conn tag) t.waiting ≡ true in
+    subst (λ (xs : List Response). has (ended (waits_unless (watch_said s.tables s.scene.watch x) s.tables conn tag fid)
+    xs)) (sym quiet)
+    (subst (λ (o : Option RBody). has (waits_unless o s.tables conn tag fid)) (sym waits)
+    (one_waits s.tables conn tag fid))
+
+watch_by : (before : Journal) (conn : ℕ) (msg : TMsg) (o : Origin) (fid : ℕ) (opening : WatchOpening) (count : ℕ)
+    (said_now : Option RBody) → kind_t msg.body ≡ 116
+    → doing_of (present_after before) (event.Msg conn msg) ≡ plain_watch (present_after before) o fid opening count
+    → watch_said (run before).tables (run before).scene.watch (watch_asked conn msg.tag opening count) ≡ said_now
+    → ReadsOnce before conn msg (watch_reads (run before) (watch_asked conn msg.tag opening count)) said_now
+watch_by before conn msg o fid opening count (Some body) asks does is =
+    let s : State = run before in
+    let w : WatchState = s.scene.watch in
+    let x : WatchRead = watch_asked conn msg.tag opening count in
+    let all : said_after before (event.Msg conn msg) ≡ if_watch_said x (Some body) =
+    ap (said (present s) (kind.Asks conn msg.tag)) does ∙ watch_said_now s o conn msg.tag fid opening count
+    (at_rest before) ∙ ap (if_watch_said x) is
+    in (
+      unless_answers msg.body (watch_piece w x) (watch_refusal s.tables w x) (watch_waits w.log w.jobs x) body asks is,
+      all,
+    )
+watch_by before conn msg o fid opening count None asks does is =
+    let s : State = run before in
+    let w : WatchState = s.scene.watch in
+    let e : Event = event.Msg conn msg in
+    let x : WatchRead = watch_asked conn msg.tag opening count in
+    let has : Tables → Type 0 = λ t. list_any (is_waiting conn msg.tag) t.waiting ≡ true in
+    let left : has (tables_after (present s) (kind.Asks conn msg.tag) (doing_of (present s) e)) =
+    subst (λ (d : Doing). has (tables_after (present s) (kind.Asks conn msg.tag) d)) (sym does)
+    (watch_waits_on s o conn msg.tag fid opening count (at_rest before) is)
+    in
+    record {
+      silent = ap (said (present s) (kind.Asks conn msg.tag)) does
+          ∙ watch_said_now s o conn msg.tag fid opening count (at_rest before) ∙ ap (if_watch_said x) is;
+      waits = subst (λ (t : State). has t.tables) (sym (run-push before e))
+          (subst has (sym (stepped_tables s conn msg)) left);
+      must = must_wait (watch_piece w x) (watch_refusal s.tables w x) (watch_waits w.log w.jobs x) is;
+    }
+
+reads_watch_by : (before : Journal) (conn : ℕ) (msg : TMsg) (fid : ℕ) (opening : WatchOpening) (count : ℕ)
+    → IsWell (run before) → kind_t msg.body ≡ 116
+    → (doing_of (present_after before) (event.Msg conn msg)).answer ≡ Some (ReadsWatch fid opening count)
+    → ReadsOnce before conn msg (watch_reads (run before) (watch_asked conn msg.tag opening count))
+    (watch_said (run before).tables (run before).scene.watch (watch_asked conn msg.tag opening count))
+reads_watch_by before conn msg fid opening count well asks is =
+    let s : State = run before in
+    let p : Present = present s in
+    let d : Reaction = reaction_at p conn msg in
+    let o : Origin = message_origin s.tables conn msg.body in
+    let same : d.answer ≡ ReadsWatch fid opening count = message_reads p d o (ReadsWatch fid opening count) refl is in
+    let sane : IsSane (opens_in p) s.tables conn d = sane_in s conn msg well in
+    let reads : ReadsSane s.tables conn d (ReadsWatch fid opening count) = subst (ReadsSane s.tables conn d) same
+    sane.1 in
+    watch_by before conn msg o fid opening count
+    (watch_said s.tables s.scene.watch (watch_asked conn msg.tag opening count)) asks
+    (reading p o d.effect d.events d.changes d.demand d.answer (ReadsWatch fid opening count) reads.0 reads.2 reads.3
+    reads.4 same) refl
+
 -- ---- all messages
 
 answered_by : (before : Journal) (conn : ℕ) (msg : TMsg) (a : Option Answer) → IsWell (run before)
-    → WaitsAreTied (run before) → IsAlone (run before) conn msg.tag
+    → IsTiedState (run before) → IsAlone (run before) conn msg.tag
     (doing_of (present_after before) (event.Msg conn msg)) → (doing_of (present_after before)
     (event.Msg conn msg)).answer ≡ a
     → HasAnswer msg.body a → IsAnsweredBy before conn msg a
@@ -583,12 +676,14 @@ answered_by before conn msg None well tied alone is has = has
 answered_by before conn msg (Some (Says body)) well tied alone is has = (
   has,
   says_once (run before) conn msg.tag (doing_of (present_after before) (event.Msg conn msg)) body tied is
-      (run_idle before) alone,
+      (at_rest before) alone,
 )
 answered_by before conn msg (Some (Reads fid opening count)) well tied alone is has = reads_by before conn msg fid
     opening count well has is
 answered_by before conn msg (Some (ReadsPort fid opening count)) well tied alone is has = reads_port_by before conn msg
     fid opening count well has is
+answered_by before conn msg (Some (ReadsWatch fid opening count)) well tied alone is has = reads_watch_by before conn
+    msg fid opening count well has is
 
 pub messages_answered : EachIsAnswered → (journal : Journal) → AreEnabled journal → MessagesAreAnswered journal
 messages_answered law journal played before behind conn msg is =
@@ -596,5 +691,5 @@ messages_answered law journal played before behind conn msg is =
     let parts : AreEnabled before × PlaysOn before (e ∷ behind) = played_parts before (e ∷ behind)
     (subst AreEnabled (sym is) played) in
     answered_by before conn msg (doing_of (present_after before) e).answer (well_after before parts.0)
-    (waits_tied before parts.0) (alone_by before conn msg parts.0 (played_first before behind e parts.1).0) refl
+    (tied_after before parts.0) (alone_by before conn msg parts.0 (played_first before behind e parts.1).0) refl
     (law (present_after before) conn msg)

@@ -1,9 +1,10 @@
 -- What a message is answered: what its reaction says, where nothing is refused.
-use Rattle.std.proofs.Common.{◌≡◌, ℕ, true, false, cond, List, Option, Some, None}
+use Rattle.std.proofs.Common.{◌≡◌, Bool, true, false, cond, List, ℕ, Option, Some, None, ap, ◌∙◌}
+use Rattle.std.proofs.lemmas.Bool.{false≢true}
 use Rattle.ninep_types.specs.declared.message.RBody.TheVariants as r
 use Rattle.win_events.specs.declared.item.Origin.{Origin}
 use Rattle.core_fids.specs.declared.effect.Answer.{Answer}
-use Rattle.core_fids.specs.declared.effect.Answer.TheVariants.{Says, Reads, ReadsPort}
+use Rattle.core_fids.specs.declared.effect.Answer.TheVariants.{Says, Reads, ReadsPort, ReadsWatch}
 use Rattle.core_fids.specs.declared.effect.Reaction.{Reaction}
 use Rattle.core_fids.specs.declared.refusal.Refusal.{Refusal}
 use Rattle.core_tasks.specs.Tasks.{task_refusal, task_held}
@@ -16,43 +17,27 @@ use Rattle.core_parts.specs.States.{Present}
 abbrev pub held_of : Present → Reaction → Origin → Option (List ℕ)
 held_of s d o = task_held (entry_by s o) (demanded_task s.scene.book d.changes d.demand) s.scene
 
+-- whether something is read that may have to be waited for
+abbrev pub is_reads : Answer → Bool
+is_reads (Says body) = false
+is_reads (Reads fid opening count) = true
+is_reads (ReadsPort fid opening count) = true
+is_reads (ReadsWatch fid opening count) = true
+
 -- a refusal reads nothing
-pub refused_reads : (x : Option Refusal) (a : Answer) (fid opening count : ℕ) → or_refused x a ≡ Reads fid opening count
-    → a ≡ Reads fid opening count
-refused_reads None a fid opening count is = is
-refused_reads (Some refusal) a fid opening count is =
-    elim (is_refusal a) as (λ b. cond b a (Says (r.Error (refusal_text refusal))) ≡ Reads fid opening count
-    → a ≡ Reads fid opening count) [
+refused_reads : (x : Option Refusal) (a read : Answer) → is_reads read ≡ true → or_refused x a ≡ read → a ≡ read
+refused_reads None a read reads is = is
+refused_reads (Some refusal) a read reads is =
+    elim (is_refusal a) as (λ b. cond b a (Says (r.Error (refusal_text refusal))) ≡ read → a ≡ read) [
       | true ↦ λ h. h
-      | false ↦ λ h. absurd cc
+      | false ↦ λ h. absurd (false≢true (ap is_reads h ∙ reads))
     ] is
 
-pub refused_reads_port : (x : Option Refusal) (a : Answer) (fid opening count : ℕ)
-    → or_refused x a ≡ ReadsPort fid opening count → a ≡ ReadsPort fid opening count
-refused_reads_port None a fid opening count is = is
-refused_reads_port (Some refusal) a fid opening count is =
-    elim (is_refusal a) as (λ b. cond b a (Says (r.Error (refusal_text refusal))) ≡ ReadsPort fid opening count
-    → a ≡ ReadsPort fid opening count) [
-      | true ↦ λ h. h
-      | false ↦ λ h. absurd cc
-    ] is
-
-pub message_reads : (s : Present) (d : Reaction) (o : Origin) (fid opening count : ℕ)
-    → (message_doing s d o).answer ≡ Some (Reads fid opening count) → d.answer ≡ Reads fid opening count
-message_reads s d o fid opening count is =
-    let asked : Answer = or_refused (demand_refusal s.scene.book d.demand) d.answer in
+pub message_reads : (s : Present) (d : Reaction) (o : Origin) (read : Answer) → is_reads read ≡ true
+    → (message_doing s d o).answer ≡ Some read → d.answer ≡ read
+message_reads s d o read reads is =
+    let asked : Answer = or_refused (demand_refusal s.scene d.demand) d.answer in
     let refusal : Option Refusal = task_refusal (entry_by s o) (demanded_task s.scene.book d.changes d.demand)
     s.scene in
-    let last : or_refused refusal asked ≡ Reads fid opening count = cc in
-    refused_reads (demand_refusal s.scene.book d.demand) d.answer fid opening count
-    (refused_reads refusal asked fid opening count last)
-
-pub message_reads_port : (s : Present) (d : Reaction) (o : Origin) (fid opening count : ℕ)
-    → (message_doing s d o).answer ≡ Some (ReadsPort fid opening count) → d.answer ≡ ReadsPort fid opening count
-message_reads_port s d o fid opening count is =
-    let asked : Answer = or_refused (demand_refusal s.scene.book d.demand) d.answer in
-    let refusal : Option Refusal = task_refusal (entry_by s o) (demanded_task s.scene.book d.changes d.demand)
-    s.scene in
-    let last : or_refused refusal asked ≡ ReadsPort fid opening count = cc in
-    refused_reads_port (demand_refusal s.scene.book d.demand) d.answer fid opening count
-    (refused_reads_port refusal asked fid opening count last)
+    let last : or_refused refusal asked ≡ read = cc in
+    refused_reads (demand_refusal s.scene d.demand) d.answer read reads (refused_reads refusal asked read reads last)

@@ -92,6 +92,7 @@ demanded book b demand.ClearsRules is = absurd cc
 demanded book b (demand.AddsRules text) is = absurd cc
 demanded book b (demand.AddsRest text) is = absurd cc
 demanded book b (demand.Sends text) is = absurd cc
+demanded book b (demand.Answers opening text) is = absurd cc
 
 was_taken : (s : State) (e : Event) (b : BackItem) → (doing_of (present s) e).back ≡ Some b
     → IsTaken s.scene.book b.window b.number

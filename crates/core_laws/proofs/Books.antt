@@ -59,6 +59,7 @@ module _ (P : Asker → Type 0) (at : ℕ) where
         | true ↦ book_add s w b
         | false ↦ b
       ]
+  book_opened s (events.Watches file) b = b
   book_opened s (events.Cancels tag) b = b
   book_opened s (events.Joins port) b = b
 
@@ -166,6 +167,7 @@ module _ (P : Asker → Type 0) (at : ℕ) where
   book_cancelled s conn events.Nothing b = b
   book_cancelled s conn (events.Opens w) b = b
   book_cancelled s conn (events.Joins port) b = b
+  book_cancelled s conn (events.Watches file) b = b
   book_cancelled s conn (events.Cancels tag) b = record {
     lawful = lawful-cancel s conn tag b.lawful;
     latest = b.latest;

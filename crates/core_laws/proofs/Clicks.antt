@@ -46,7 +46,11 @@ use Rattle.core_events.specs.PortServing.{ports_served, ports_after_serving}
 use Rattle.core_events.specs.PortSound.{ArePortsIdle}
 use Rattle.core_events.proofs.PortIdles.{none_said, none_taken}
 use Rattle.acme_core.proofs.Goes.{run-push}
-use Rattle.acme_core.proofs.Idling.{ports_idle_after}
+use Rattle.acme_core.proofs.Idling.{ports_idle_after, watch_idle_after}
+use Rattle.acme_core.proofs.Watching.{none_said as none_followed, none_taken as none_given}
+use Rattle.acme_watch.specs.Watching.{WatchState}
+use Rattle.core_watch.specs.Serving.{watch_served, watch_after_serving}
+use Rattle.core_watch.specs.Sound.{IsWatchIdle}
 use Rattle.core_laws.specs.Laws.{OnlyTells, ClicksAreTold, item_of_click}
 use Rattle.core_laws.specs.Saying.{said_after}
 use Rattle.core_laws.proofs.Wells.{done_sessions}
@@ -83,6 +87,7 @@ telling deeds = record {
   origin = M;
   answer = None;
   back = None;
+  answers = None;
 }
 
 -- the story behind an event of this kind
@@ -101,44 +106,53 @@ after_kind s k d = record {
 abbrev Told : State → Kind → ℕ → Doing → Option Item → Type 0
 Told s k w d o = OnlyTells s (after_kind s k d) (said (present s) k d) w o
 
--- nothing is said to reads of ports
-quiet : (t : Tables) (x : SceneState) (heard : List Response) → ArePortsIdle x.ports
-    → as_asked t (heard ∷ ports_served x.ports ∷ []) ≡ heard
-quiet t x heard idle = first_alone t heard (ports_served x.ports) (none_said x.ports idle)
+-- no read of a port, of `log` or of `jobs` that waits can be answered
+abbrev AreIdle : SceneState → Type 0
+AreIdle x = ArePortsIdle x.ports × IsWatchIdle x.watch
+
+-- so nothing is said to these
+quiet : (t : Tables) (x : SceneState) (heard : List Response) (at : ℕ) → AreIdle x
+    → as_asked t (heard ∷ ports_served x.ports ∷ watch_served at x.watch ∷ []) ≡ heard
+quiet t x heard at idle = first_alone t heard (ports_served x.ports) (watch_served at x.watch)
+    (none_said x.ports idle.0) (none_followed at x.watch idle.1)
 
 -- and they stay
-stays : (x : SceneState) → ArePortsIdle x.ports → record x { ports = ports_after_serving x.ports } ≡ x
-stays x idle = ap (λ (p : PortsState). record x { ports = p }) (none_taken x.ports idle)
+stays : (x : SceneState) (at : ℕ) → AreIdle x
+    → record x { ports = ports_after_serving x.ports; watch = watch_after_serving at x.watch } ≡ x
+stays x at idle =
+    ap (λ (p : PortsState). record x { ports = p; watch = watch_after_serving at x.watch }) (none_taken x.ports idle.0)
+    ∙ ap (λ (w : WatchState). record x { watch = w }) (none_given at x.watch idle.1)
 
 -- an item comes where the event file is open
 put_is : (b : BookState) (w : ℕ) (item : Item) → is_open_window b w ≡ true → put_one b
     (record { window = w; item = item }) ≡ after_put b w item
 put_is b w item opened = subst (λ (t : Bool). cond t (after_put b w item) b ≡ after_put b w item) (sym opened) refl
 
-tells : (s : State) (x : SceneState) (w : ℕ) (o : Option Item) → ArePortsIdle x.ports
+tells : (s : State) (x : SceneState) (w : ℕ) (o : Option Item) → AreIdle x
     → is_open_window x.book w ≡ true → Told (record s { scene = tidy x }) kind.Acts w (telling (item_deeds w o)) o
 tells s x w None idle opened = record {
   book = refl;
-  says = quiet s.tables x (served_all (s.entries + 1) x.book) idle;
+  says = quiet s.tables x (served_all (s.entries + 1) x.book) (s.entries + 1) idle;
   connections = refl;
   sessions = done_sessions s.tables (said (present (record s { scene = tidy x })) kind.Acts (telling []));
   windows = refl;
-  scene = stays (tidy x) idle;
+  scene = stays (tidy x) (s.entries + 1) idle;
 }
 tells s x w (Some item) idle opened = record {
   book = rw opened (ap (λ (b : BookState). book_served_all (s.entries + 1) b) (put_is x.book w item opened));
   says = rw opened
-      (quiet s.tables x (served_all (s.entries + 1) (put_one x.book (record { window = w; item = item }))) idle
+      (quiet s.tables x (served_all (s.entries + 1) (put_one x.book (record { window = w; item = item })))
+      (s.entries + 1) idle
       ∙ ap (λ (b : BookState). served_all (s.entries + 1) b) (put_is x.book w item opened));
   connections = refl;
   sessions = done_sessions s.tables (said (present (record s { scene = tidy x })) kind.Acts
       (telling (deed.Item w item ∷ [])));
   windows = refl;
-  scene = stays (tidy x) idle;
+  scene = stays (tidy x) (s.entries + 1) idle;
 }
 
 -- the same of a story that is tidy, with deeds that are such
-told : (s : State) (w : ℕ) (o : Option Item) (deeds : List Deed) → s.scene ≡ tidy s.scene → ArePortsIdle s.scene.ports
+told : (s : State) (w : ℕ) (o : Option Item) (deeds : List Deed) → s.scene ≡ tidy s.scene → AreIdle s.scene
     → is_open_window s.scene.book w ≡ true → deeds ≡ item_deeds w o → Told s kind.Acts w (telling deeds) o
 told s w o deeds h idle opened is =
     subst (λ (ds : List Deed). Told s kind.Acts w (telling ds) o) (sym is)
@@ -167,7 +181,7 @@ unfolding look_click
 look_one e at None s opened = refl
 look_one e at (Some c) s opened = rw opened refl
 
-told_exec : (s : State) (at : Spot) (chord : Option Spot) → s.scene ≡ tidy s.scene → ArePortsIdle s.scene.ports
+told_exec : (s : State) (at : Spot) (chord : Option Spot) → s.scene ≡ tidy s.scene → AreIdle s.scene
     → is_open_window s.scene.book at.window ≡ true
     → Told s kind.Acts at.window (telling (exec_at_deeds (entry_by (present s) M) at chord (present s).scene))
     (of_exec at (argument_if_any (present s).scene.windows chord) (clicked_at (present s).scene.windows at click.Exec))
@@ -178,7 +192,7 @@ told_exec s at chord h idle opened =
     told s at.window (of_exec at argument c) (exec_at_deeds (entry_by (present s) M) at chord x) h idle opened
     (exec_one (entry_by (present s) M) at argument c x opened)
 
-told_look : (s : State) (at : Spot) → s.scene ≡ tidy s.scene → ArePortsIdle s.scene.ports
+told_look : (s : State) (at : Spot) → s.scene ≡ tidy s.scene → AreIdle s.scene
     → is_open_window s.scene.book at.window ≡ true
     → Told s kind.Acts at.window (telling (look_at_deeds (entry_by (present s) M) at (present s).scene))
     (of_look at (present s).scene (clicked_at (present s).scene.windows at click.Look))
@@ -214,7 +228,7 @@ clicks before (event.Exec at) w is opened =
     subst (λ (v : ℕ). OnlyTells (run before) (run (longer before (event.Exec at))) (said_after before (event.Exec at)) v
     (item_of_click (present_after before).scene (event.Exec at))) same
     (behind before (event.Exec at) at.window (item_of_click (present_after before).scene (event.Exec at))
-    (told_exec (run before) at None (run_tidy before) (ports_idle_after before) mine))
+    (told_exec (run before) at None (run_tidy before) (ports_idle_after before, watch_idle_after before) mine))
 clicks before (event.Arg at chord) w is opened =
     let same : at.window ≡ w = cc in
     let mine : is_open_window (run before).scene.book at.window ≡ true =
@@ -223,7 +237,7 @@ clicks before (event.Arg at chord) w is opened =
     (said_after before (event.Arg at chord)) v (item_of_click (present_after before).scene (event.Arg at chord)))
     same
     (behind before (event.Arg at chord) at.window (item_of_click (present_after before).scene (event.Arg at chord))
-    (told_exec (run before) at (Some chord) (run_tidy before) (ports_idle_after before) mine))
+    (told_exec (run before) at (Some chord) (run_tidy before) (ports_idle_after before, watch_idle_after before) mine))
 clicks before (event.Look at) w is opened =
     let same : at.window ≡ w = cc in
     let mine : is_open_window (run before).scene.book at.window ≡ true =
@@ -231,7 +245,7 @@ clicks before (event.Look at) w is opened =
     subst (λ (v : ℕ). OnlyTells (run before) (run (longer before (event.Look at))) (said_after before (event.Look at)) v
     (item_of_click (present_after before).scene (event.Look at))) same
     (behind before (event.Look at) at.window (item_of_click (present_after before).scene (event.Look at))
-    (told_look (run before) at (run_tidy before) (ports_idle_after before) mine))
+    (told_look (run before) at (run_tidy before) (ports_idle_after before, watch_idle_after before) mine))
 clicks before (event.Dial conn) w is opened = absurd cc
 clicks before (event.Msg conn msg) w is opened = absurd cc
 clicks before (event.Hang conn why) w is opened = absurd cc

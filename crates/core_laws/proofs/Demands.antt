@@ -16,6 +16,8 @@ use Rattle.acme_tree.specs.declared.node.Node.{Node}
 use Rattle.acme_tree.specs.declared.node.Node.TheVariants as nodes
 use Rattle.acme_tree.specs.declared.node.WinFile.TheVariants as file
 use Rattle.acme_tree.specs.declared.node.World.{World}
+use Rattle.acme_watch.specs.declared.types.WatchFile.{WatchFile}
+use Rattle.acme_watch.specs.declared.types.WatchFile.TheVariants.{Log, Jobs}
 use Rattle.fid_table.specs.declared.types.Fid.{Fid}
 use Rattle.fid_table.specs.Tables.{Tables, fid_of}
 use Rattle.core_addresses.specs.Data.{data_taken}
@@ -26,11 +28,12 @@ use Rattle.core_windows.specs.Windows.{Window, window_at, named}
 use Rattle.core_fids.specs.declared.content.Content.{Content}
 use Rattle.core_fids.specs.declared.content.Content.TheVariants as content
 use Rattle.core_fids.specs.declared.effect.Answer.{Answer}
-use Rattle.core_fids.specs.declared.effect.Answer.TheVariants.{Says, Reads, ReadsPort}
+use Rattle.core_fids.specs.declared.effect.Answer.TheVariants.{Says, Reads, ReadsPort, ReadsWatch}
 use Rattle.core_fids.specs.declared.effect.Reaction.{Reaction}
 use Rattle.core_fids.specs.declared.effect.Effect.TheVariants as effect
 use Rattle.core_fids.specs.declared.effect.Demand.{Demand}
 use Rattle.core_fids.specs.declared.effect.Demand.TheVariants as demand
+use Rattle.core_fids.specs.declared.effect.WatchOpening.{WatchOpening}
 use Rattle.core_fids.specs.declared.refusal.Refusal.{Refusal}
 use Rattle.core_fids.specs.declared.refusal.Refusal.TheVariants as refusal
 use Rattle.core_fids.specs.declared.walking.WalkEnd.{WalkEnd}
@@ -41,19 +44,21 @@ use Rattle.core_fids.specs.Attaching.{is_version, agreement, root_of, attach_ref
 use Rattle.core_fids.specs.Contents.{content_of}
 use Rattle.core_answers.specs.Reactions.{session_reaction, comes_first, reaction}
 use Rattle.core_answers.specs.Erring.{fits_in, fits_tag, errors_of, root_errors, errors_refusal}
-use Rattle.core_fids.specs.Fids.{event_opening, port_opening, holds_rules, is_for_reading, is_for_writing}
+use Rattle.core_fids.specs.Fids.{event_opening, port_opening, watch_opening, holds_rules, is_for_reading}
+use Rattle.core_fids.specs.Fids.{is_for_writing}
 use Rattle.core_fids.specs.Opening.{opening_demand, open_refusal, or_opens, open_fid, denial, clunk_fid, remove_fid}
 use Rattle.core_fids.specs.Plainly.{does, demands}
 use Rattle.core_fids.specs.Servers.{ServerState, world_by, fid_by}
 use Rattle.core_fids.specs.Directories.{Tread, place_at, read_dir, stat_fid}
-use Rattle.core_answers.specs.Reading.{read_opening, read_port, read_content, use_refusal, or_reads, lowered, read_fid}
+use Rattle.core_answers.specs.Reading.{read_opening, read_port, read_watch, read_content, use_refusal, or_reads}
+use Rattle.core_answers.specs.Reading.{lowered, read_fid}
 use Rattle.core_fids.specs.Refusals.{refusal_text, refusal_with_effect, reaction_or_refusal}
 use Rattle.core_intents.specs.Intents.{is_refusal}
 use Rattle.core_laws.specs.Refusals.{refused, remove_refusal, session_refusal}
 use Rattle.core_answers.specs.Texts.{text_at, right_of}
 use Rattle.core_fids.specs.Walking.{course, walk_refusal, arrives_at, or_walks, walk_from}
 use Rattle.core_answers.specs.Writing.{Twrite, whole_runes, if_lives, append_reaction, add_reaction, or_errors}
-use Rattle.core_answers.specs.Writing.{errors_reaction, write_content, write_fid}
+use Rattle.core_answers.specs.Writing.{errors_reaction, answer_reaction, watch_reaction, write_content, write_fid}
 
 -- whether an item is written back
 abbrev pub is_back : Demand → Bool
@@ -64,12 +69,14 @@ is_back demand.ClearsRules = false
 is_back (demand.AddsRules text) = false
 is_back (demand.AddsRest text) = false
 is_back (demand.Sends text) = false
+is_back (demand.Answers opening text) = false
 
 -- an answer of this type, which is no refusal
 abbrev pub Owns : ℕ → Answer → Type 0
 Owns kind (Says body) = (kind_r body ≡ kind) × (is_refusal (Says body) ≡ false)
 Owns kind (Reads fid opening count) = kind ≡ rread
 Owns kind (ReadsPort fid opening count) = kind ≡ rread
+Owns kind (ReadsWatch fid opening count) = kind ≡ rread
 
 -- no item is written back, and the answer is such
 abbrev Plain : ℕ → Reaction → Type 0
@@ -151,6 +158,10 @@ read_port_plain : (asked : Tread) (o : Option ℕ) → Plainly rread (read_port 
 read_port_plain asked None = tt
 read_port_plain asked (Some opening) = (refl, refl)
 
+read_watch_plain : (asked : Tread) (o : Option WatchOpening) → Plainly rread (read_watch asked o)
+read_watch_plain asked None = tt
+read_watch_plain asked (Some opening) = (refl, refl)
+
 data_plain : (w count : ℕ) (o : Option Window) → Plain rread (data_reaction w count o)
 data_plain w count None = (refl, (refl, refl))
 data_plain w count (Some window) = (refl, (refl, refl))
@@ -176,6 +187,7 @@ read_content_plain server asked f (content.EventsOf w) = read_opening_plain aske
 read_content_plain server asked f content.SendText = tt
 read_content_plain server asked f content.RulesText = (refl, (refl, refl))
 read_content_plain server asked f (content.PortOf k) = read_port_plain asked (port_opening f)
+read_content_plain server asked f (content.WatchOf file) = read_watch_plain asked (watch_opening f)
 
 reads : (server : ServerState) (asked : Tread) (o : Option Fid) → Plainly rread (read_fid server asked o)
 reads server asked None = tt
@@ -273,13 +285,23 @@ module _ (server : ServerState) (fid offset : ℕ) (bytes : List ℕ) where
   taking_plain w None = tt
   taking_plain w (Some window) = data_set_plain w (length bytes) (data_taken window.body bytes)
 
+  answers_plain : (asked : Twrite) (o : Option WatchOpening) → Plainly rwrite (answer_reaction asked o)
+  answers_plain asked None = tt
+  answers_plain asked (Some opening) = (refl, (refl, refl))
+
+  watch_plain : (asked : Twrite) (f : Fid) (file : WatchFile) → Plainly rwrite (watch_reaction asked f file)
+  watch_plain asked f Log = tt
+  watch_plain asked f Jobs = answers_plain asked (watch_opening f)
+
   -- the node of an event file
   event_node : (n : Node) (w : ℕ) → content_of n ≡ content.EventsOf w → n ≡ nodes.File w file.Event
   event_node nodes.Root w e = absurd cc
   event_node nodes.Cons w e = absurd cc
   event_node nodes.ConsCtl w e = absurd cc
   event_node nodes.Index w e = absurd cc
+  event_node nodes.Jobs w e = absurd cc
   event_node nodes.Label w e = absurd cc
+  event_node nodes.Log w e = absurd cc
   event_node nodes.NewDir w e = absurd cc
   event_node nodes.PlumbRoot w e = absurd cc
   event_node nodes.Send w e = absurd cc
@@ -334,6 +356,7 @@ module _ (server : ServerState) (fid offset : ℕ) (bytes : List ℕ) where
   content_right windows f content.SendText there e = (inl refl, (refl, refl))
   content_right windows f content.RulesText there e = (inl refl, (refl, refl))
   content_right windows f (content.PortOf k) there e = tt
+  content_right windows f (content.WatchOf file) there e = plainly _ (watch_plain this_write f file)
 
   write_right : (o : Option Fid) → fid_by server fid ≡ o → Rightly (write_fid server this_write o)
   write_right None there = tt

@@ -58,6 +58,7 @@ abbrev pub cancels_with : ℕ → EventChange → ℕ → ℕ → Bool
 cancels_with conn events.Nothing c g = false
 cancels_with conn (events.Opens w) c g = false
 cancels_with conn (events.Joins port) c g = false
+cancels_with conn (events.Watches file) c g = false
 cancels_with conn (events.Cancels tag) c g = eqb c conn && eqb g tag
 
 abbrev pub cancels : Kind → EventChange → ℕ → ℕ → Bool
@@ -134,12 +135,14 @@ cancelled_without : (b : BookState) (conn : ℕ) (v : EventChange) →
 cancelled_without b conn events.Nothing = none_goes b.reads
 cancelled_without b conn (events.Opens w) = none_goes b.reads
 cancelled_without b conn (events.Joins port) = none_goes b.reads
+cancelled_without b conn (events.Watches file) = none_goes b.reads
 cancelled_without b conn (events.Cancels tag) = refl
 
 cancelled_owners : (b : BookState) (conn : ℕ) (v : EventChange) → (cancelled b conn v).owners ≡ b.owners
 cancelled_owners b conn events.Nothing = refl
 cancelled_owners b conn (events.Opens w) = refl
 cancelled_owners b conn (events.Joins port) = refl
+cancelled_owners b conn (events.Watches file) = refl
 cancelled_owners b conn (events.Cancels tag) = refl
 
 or_nothing : (p : Asker → Bool) (rs : List Asker) → without p rs ≡ without (λ r. p r || false) rs
@@ -191,12 +194,14 @@ ports_cancelled_without : (p : PortsState) (conn : ℕ) (v : EventChange)
 ports_cancelled_without p conn events.Nothing = none_goes p.reads
 ports_cancelled_without p conn (events.Opens w) = none_goes p.reads
 ports_cancelled_without p conn (events.Joins port) = none_goes p.reads
+ports_cancelled_without p conn (events.Watches file) = none_goes p.reads
 ports_cancelled_without p conn (events.Cancels tag) = refl
 
 ports_cancelled_joined : (p : PortsState) (conn : ℕ) (v : EventChange) → (ports_cancelled p conn v).joined ≡ p.joined
 ports_cancelled_joined p conn events.Nothing = refl
 ports_cancelled_joined p conn (events.Opens w) = refl
 ports_cancelled_joined p conn (events.Joins port) = refl
+ports_cancelled_joined p conn (events.Watches file) = refl
 ports_cancelled_joined p conn (events.Cancels tag) = refl
 
 pub left_ports_without : (t : Tables) (k : Kind) (d : Doing) (p : PortsState)
@@ -237,6 +242,7 @@ tables_cancelled_without : (t : Tables) (conn : ℕ) (v : EventChange)
 tables_cancelled_without t conn events.Nothing = none_waits t.waiting
 tables_cancelled_without t conn (events.Opens w) = none_waits t.waiting
 tables_cancelled_without t conn (events.Joins port) = none_waits t.waiting
+tables_cancelled_without t conn (events.Watches file) = none_waits t.waiting
 tables_cancelled_without t conn (events.Cancels tag) = refl
 
 waits_or_nothing : (p : Waiting → Bool) (ws : List Waiting) → without p ws ≡ without (λ w. p w || false) ws

@@ -1,13 +1,11 @@
 -- What is said goes to connections that live, so an ended one is replied nothing more.
-use Rattle.std.proofs.Common.{◌≡◌, ◌≢◌, ℕ, zero, suc, ◌+◌, ◌<◌, true, false, eqb, ◌||◌, List, [], ◌∷◌, ◌++◌, None, All}
+use Rattle.std.proofs.Common.{◌≡◌, ◌≢◌, ℕ, zero, suc, ◌<◌, true, false, eqb, ◌||◌, List, [], ◌∷◌, ◌++◌, None, All}
 use Rattle.std.proofs.Common.{refl, sym, ap, subst, ◌∙◌, append-nil}
 use Rattle.std.proofs.lemmas.Bool.{ne_eqb, or_left}
 use Rattle.std.proofs.lemmas.List.Elements.{All-head, All-tail, All-weaker}
 use Rattle.std.proofs.lemmas.List.Folds.{list_any-append}
 use Rattle.std.specs.Prelude.{slice_set}
 use Rattle.fid_table.specs.declared.session.Waiting.{Waiting}
-use Rattle.fid_table.specs.Tables.{Tables}
-use Rattle.event_book.specs.BookState.{BookState}
 use Rattle.am_journal.specs.declared.event.Event.{Event}
 use Rattle.am_journal.specs.declared.event.Event.TheVariants as event
 use Rattle.am_counter.specs.Played.{ArePlayed, has_hang, is_hang_of}
@@ -24,24 +22,20 @@ use Rattle.core_parts.specs.Doing.{Doing}
 use Rattle.core_intents.specs.Enabled.{dial_refusal}
 use Rattle.core_parts.specs.Kinds.{kind_of}
 use Rattle.acme_core.specs.Run.{step, run, enabled, output_at, AreEnabled, output_in}
-use Rattle.core_steps.specs.Stages.{grown_tables, read_book, open_ports, said}
+use Rattle.core_steps.specs.Stages.{said}
 use Rattle.core_parts.specs.States.{Present, State, present}
 use Rattle.core_steps.specs.Replies.{replies_of}
 use Rattle.acme_core.proofs.Connected.{tells_connections}
 use Rattle.acme_core.proofs.Goes.{run-push}
 use Rattle.core_laws.specs.Laws.{NothingAfterTheHangUp, EndedGetAllReplies}
 use Rattle.core_laws.specs.Replies.{bytes_to}
-use Rattle.core_laws.proofs.Books.{IsBook, book_weaker}
-use Rattle.core_laws.proofs.Fids.{IsHeld, fids_at}
 use Rattle.core_laws.proofs.Playing.{played_more, played_parts, PlaysOn}
 use Rattle.core_laws.proofs.Replying.{replied_by, replied_from, all_replied, replied_parts}
-use Rattle.core_laws.proofs.Tells.{Tells, Reading, OfMessage, tells}
+use Rattle.core_laws.proofs.Quiets.{quiet_by, quiet_says}
+use Rattle.core_laws.proofs.Tells.{Tells, OfMessage}
+use Rattle.core_laws.proofs.Tied.{IsTiedState, tied_after}
 use Rattle.core_laws.proofs.Unsents.{ahead, sent_or_unsent}
-use Rattle.plumb_ports.specs.PortsState.{PortsState}
-use Rattle.core_fids.specs.Fids.{event_opening, port_opening}
-use Rattle.core_laws.proofs.Helds.{AreHeld, held_open, held_after}
-use Rattle.core_laws.proofs.Wells.{Lives, IsOfLive, WaitsOnLive, AreWell, IsWell, IsOwn, begun, own, dial_lives, later}
-use Rattle.core_laws.proofs.Wells.{well_read, well_after}
+use Rattle.core_laws.proofs.Wells.{Lives, WaitsOnLive, IsWell, IsOwn, begun, own, dial_lives, well_after}
 use Rattle.am_journal.specs.declared.event.Journal.{Journal}
 use Rattle.am_journal.specs.Journal.{longer, journal_in}
 use Rattle.core_laws.specs.Fronts.{followed}
@@ -50,18 +44,6 @@ use Rattle.core_laws.specs.Fronts.{followed}
 
 abbrev OnLive : List Connection → ℕ → ℕ → Type 0
 OnLive cs conn tag = Lives cs conn
-
-reads_live : (cs : List Connection) (t : Tables) (at : ℕ) (b : BookState) → AreWell cs t at b
-    → IsBook (Reading (OnLive cs)) at b
-reads_live cs t at b well =
-    book_weaker (IsHeld event_opening t) (Reading (OnLive cs)) at b
-    (λ r h. (fids_at (IsOfLive cs) t r.conn h.number h.fid well.fids h.is).0) well.book
-
-ports_live : (cs : List Connection) (t : Tables) (at : ℕ) (b : BookState) (p : PortsState) → AreWell cs t at b
-    → AreHeld t p → All (Reading (OnLive cs)) p.reads
-ports_live cs t at b p well held =
-    All-weaker (IsHeld port_opening t) (Reading (OnLive cs)) (λ r h. (fids_at (IsOfLive cs) t r.conn h.number h.fid
-    well.fids h.is).0) p.reads held
 
 own_live : (cs : List Connection) (s : Present) (k : Kind) (d : Doing) → cs ≡ s.connections → IsOwn s k d
     → OfMessage (OnLive (begun cs k)) k
@@ -95,20 +77,13 @@ dial_ended (v ∷ cs) zero (suc x) e h = h
 dial_ended (v ∷ cs) (suc c) zero e h = h
 dial_ended (v ∷ cs) (suc c) (suc x) e h = dial_ended cs c x e h
 
-says_live : (s : State) (e : Event) → enabled_at (present s) e ≡ None → IsWell s → AreHeld s.tables s.scene.ports
+says_live : (s : State) (e : Event) → enabled_at (present s) e ≡ None → IsWell s → IsTiedState s
     → All (Tells (OnLive (begun s.connections (kind_of e)))) (said (present s) (kind_of e) (doing_of (present s) e))
-says_live s e allowed well held =
-    let p : Present = present s in
-    let k : Kind = kind_of e in
-    let d : Doing = doing_of p e in
-    let mine : IsOwn p k d = own s e allowed well in
-    let grown : AreWell (begun s.connections k) (grown_tables p k d) (s.entries + 1) (read_book p k d) = well_read p k d
-    mine (later s well) in
-    tells (OnLive (begun s.connections k)) p k d (own_live s.connections p k d refl mine)
-    (reads_live (begun s.connections k) (grown_tables p k d) (s.entries + 1) (read_book p k d) grown)
-    (ports_live (begun s.connections k) (grown_tables p k d) (s.entries + 1) (read_book p k d) (open_ports p k d) grown
-    (held_open p k d mine held))
-    (waits_live s.connections k s.tables.waiting well.waiting)
+says_live s e allowed well tied =
+    let live : ℕ → ℕ → Type 0 = OnLive (begun s.connections (kind_of e)) in
+    quiet_says live s e
+    (own_live s.connections (present s) (kind_of e) (doing_of (present s) e) refl (own s e allowed well)) well
+    (quiet_by live s tied.0 (waits_live s.connections (kind_of e) s.tables.waiting well.waiting))
 
 -- an ended connection isn't dialled again
 still_ended : (s : State) (e : Event) (conn : ℕ) → enabled_at (present s) e ≡ None →
@@ -147,9 +122,9 @@ unfolding step
 step_replies s e = refl
 
 replied_none : (before : Journal) (e : Event) (conn : ℕ) → enabled before e ≡ None → IsWell (run before)
-    → AreHeld (run before).tables (run before).scene.ports → is_ended (connection_at (run before).connections conn)
-    ≡ true → replied_by conn before e ≡ []
-replied_none before e conn allowed well held ended =
+    → IsTiedState (run before) → is_ended (connection_at (run before).connections conn) ≡ true
+    → replied_by conn before e ≡ []
+replied_none before e conn allowed well tied ended =
     let s : State = run before in
     let cs : List Connection = begun s.connections (kind_of e) in
     let xs : List Response = said (present s) (kind_of e) (doing_of (present s) e) in
@@ -157,7 +132,7 @@ replied_none before e conn allowed well held ended =
     let apart : All (λ x. x.conn ≢ conn) xs =
     All-weaker (Tells (OnLive cs)) (λ x. x.conn ≢ conn)
     (λ x live (same : x.conn ≡ conn). both (connection_at cs conn) (subst (Lives cs) same live) over) xs
-    (says_live s e allowed well held)
+    (says_live s e allowed well tied)
     in
     ap (λ (u : State). bytes_to conn u.replies) (run-push before e) ∙ ap (bytes_to conn) (step_replies s e)
     ∙ joined_none conn xs apart
@@ -180,7 +155,7 @@ nothing_behind before (e ∷ events) conn small was played hung =
     (tells_connections before.format).ended before.events conn was
     small ∙ hung in
     let first : replied_by conn before e ≡ [] = replied_none before e conn played.1 (well_after before was)
-    (held_after before was) ended in
+    (tied_after before was) ended in
     ap (λ (l : List ℕ). l ++ replied_from (longer before e) events conn) first
     ∙ nothing_behind (longer before e) events conn small (played_more before e was played.0 played.1) played.2
     (hung_more before e conn hung)

@@ -30,7 +30,7 @@ use Rattle.event_book.proofs.LawfulLemmas.{lawful-add, lawful-put_in, lawful-wai
 use Rattle.event_book.proofs.LawfulLemmas.{lawful-written_back, lawful-cancel, lawful-leave, lawful-delete}
 use Rattle.am_journal.specs.declared.event.Event.{Event}
 use Rattle.core_fids.specs.declared.effect.Answer.{Answer}
-use Rattle.core_fids.specs.declared.effect.Answer.TheVariants.{Says, Reads, ReadsPort}
+use Rattle.core_fids.specs.declared.effect.Answer.TheVariants.{Says, Reads, ReadsPort, ReadsWatch}
 use Rattle.core_fids.specs.declared.effect.Effect.{Effect}
 use Rattle.core_fids.specs.declared.effect.Effect.TheVariants as effect
 use Rattle.core_fids.specs.declared.effect.EventChange.{EventChange}
@@ -204,6 +204,7 @@ module _ (first : BookState) (at : ℕ) where
             (λ n. same (numbered_in (file_of s.files w).items n)))
         | false ↦ k
       ]
+  from_opened s (events.Watches file) k = k
   from_opened s (events.Cancels tag) k = k
   from_opened s (events.Joins port) k = k
 
@@ -270,6 +271,7 @@ module _ (first : BookState) (at : ℕ) where
   from_answer t s conn tag (Some (Says body)) k = k
   from_answer t s conn tag (Some (Reads fid opening count)) k = from_read t s (asker_of conn tag opening count) k
   from_answer t s conn tag (Some (ReadsPort fid opening count)) k = k
+  from_answer t s conn tag (Some (ReadsWatch fid opening count)) k = k
 
   from_message : (t : Tables) (s : BookState) (m : Kind) (a : Option Answer) → K s → K (message_book t s m a at)
   from_message t s (kind.Dials conn) a k = k
@@ -330,6 +332,7 @@ module _ (first : BookState) (at : ℕ) where
   from_cancelled s conn events.Nothing k = k
   from_cancelled s conn (events.Opens w) k = k
   from_cancelled s conn (events.Joins port) k = k
+  from_cancelled s conn (events.Watches file) k = k
   from_cancelled s conn (events.Cancels tag) k = on s (after_cancel s conn tag) k (lawful-cancel s conn tag k.lawful)
       k.latest (λ v n. same (recorded_of s v n))
 

@@ -1,5 +1,5 @@
 -- Executing Undo or Redo is a move.
-use Rattle.std.proofs.Common.{◌≡◌, ℕ, true, List, Option, Some, None, refl, ap, ◌∙◌}
+use Rattle.std.proofs.Common.{◌≡◌, ℕ, true, Option, Some, None, refl, ap, ◌∙◌}
 use Rattle.acme_cmd.specs.Commands.{classified}
 use Rattle.acme_cmd.specs.declared.command.Command.TheVariants as command
 use Rattle.acme_cmd.specs.declared.expansion.Click.TheVariants as click

@@ -12,6 +12,8 @@ use Rattle.fid_table.specs.declared.session.Waiting.{Waiting}
 use Rattle.fid_table.specs.Tables.{is_waiting, msize_of}
 use Rattle.wait_queue.specs.Reads.{is_read}
 use Rattle.wait_queue.specs.declared.types.Asker.{Asker}
+use Rattle.acme_watch.specs.Reads.{is_asked}
+use Rattle.acme_watch.specs.declared.types.WatchRead.{WatchRead}
 use Rattle.win_events.specs.declared.item.Origin.TheVariants.{F}
 use Rattle.am_journal.specs.declared.event.Event.{Event}
 use Rattle.core_parts.specs.declared.kind.Kind.{Kind}
@@ -27,7 +29,8 @@ use Rattle.core_events.specs.Waits.{ended}
 use Rattle.core_tasks.specs.Tasks.{task_deeds, task_refusal}
 use Rattle.core_intents.specs.Doings.{message_doing, doing_of}
 use Rattle.acme_core.specs.Run.{step, run, enabled, AreEnabled}
-use Rattle.core_steps.specs.Stages.{response, said, grown_book, grown_ports, tables_after, book_after, ports_after}
+use Rattle.core_steps.specs.Stages.{response, said, grown_book, grown_ports, grown_watch, tables_after, book_after}
+use Rattle.core_steps.specs.Stages.{ports_after, watch_after}
 use Rattle.core_parts.specs.States.{Present, State, present, next_entry}
 use Rattle.core_steps.specs.Replies.{replies_of}
 use Rattle.acme_core.proofs.Goes.{run-push}
@@ -36,7 +39,7 @@ use Rattle.core_laws.specs.Laws.{IsFree, RepliesAreSaid, EachFlushIsAnswered, No
 use Rattle.core_laws.specs.Saying.{said_after, asks, is_message, flush_of, flushed, flush_body}
 use Rattle.core_laws.proofs.Playing.{played_parts, played_first, silent_after, goes_on, PlaysOn}
 use Rattle.core_laws.proofs.Quiets.{IsQuiet, OfMessages, quiet_all, quiet_end}
-use Rattle.core_laws.proofs.Tells.{IsWaiting, Reading, OfMessage}
+use Rattle.core_laws.proofs.Tells.{IsWaiting, Reading, Following, OfMessage}
 use Rattle.core_laws.proofs.Wells.{IsWell, well_step, well_after}
 use Rattle.am_journal.specs.declared.event.Journal.{Journal}
 use Rattle.am_journal.specs.Journal.{longer}
@@ -68,6 +71,13 @@ none_reading conn tag rs =
     All-weaker (λ r. not (is_read conn tag r) ≡ true) (λ r. is_read conn tag r ≡ false)
     (λ r h. not-true (is_read conn tag r) h)
     (filter (λ r. not (is_read conn tag r)) rs) (filter_passes (λ r. not (is_read conn tag r)) rs)
+
+none_following : (conn tag : ℕ) (rs : List WatchRead) → All (λ r. is_asked conn tag r ≡ false)
+    (filter (λ r. not (is_asked conn tag r)) rs)
+none_following conn tag rs =
+    All-weaker (λ r. not (is_asked conn tag r) ≡ true) (λ r. is_asked conn tag r ≡ false)
+    (λ r h. not-true (is_asked conn tag r) h)
+    (filter (λ r. not (is_asked conn tag r)) rs) (filter_passes (λ r. not (is_asked conn tag r)) rs)
 
 -- ---- a Tflush
 
@@ -123,6 +133,7 @@ QuietAfter s conn tag oldtag d =
     All (IsWaiting (OtherTag conn oldtag)) (tables_after s (kind.Asks conn tag) (message_doing s d F)).waiting
     × All (Reading (OtherTag conn oldtag)) (book_after s (kind.Asks conn tag) (message_doing s d F)).reads
     × All (Reading (OtherTag conn oldtag)) (ports_after s (kind.Asks conn tag) (message_doing s d F)).reads
+    × All (Following (OtherTag conn oldtag)) (watch_after s (kind.Asks conn tag) (message_doing s d F)).reads
 
 quiet_flush : (s : Present) (conn tag oldtag : ℕ) → QuietAfter s conn tag oldtag (flush_reaction oldtag)
 unfolding task_deeds task_refusal
@@ -131,6 +142,7 @@ quiet_flush s conn tag oldtag = (
       (message_doing s (flush_reaction oldtag) F))).waiting,
   none_reading conn oldtag (grown_book s (kind.Asks conn tag) (message_doing s (flush_reaction oldtag) F)).reads,
   none_reading conn oldtag (grown_ports s (kind.Asks conn tag) (message_doing s (flush_reaction oldtag) F)).reads,
+  none_following conn oldtag (grown_watch s (kind.Asks conn tag) (message_doing s (flush_reaction oldtag) F)).reads,
 )
 
 quiet_then : (s : State) (conn tag oldtag : ℕ) → said (present s) (kind.Asks conn tag)
@@ -163,6 +175,7 @@ free_by journal conn tag quiet = record {
   waiting = list_any_none (is_waiting conn tag) (run journal).tables.waiting quiet.0;
   reads = list_any_none (is_read conn tag) (run journal).scene.book.reads quiet.1;
   port_reads = list_any_none (is_read conn tag) (run journal).scene.ports.reads quiet.2;
+  watch_reads = list_any_none (is_asked conn tag) (run journal).scene.watch.reads quiet.3;
 }
 
 pub nothing_to_a_flushed : NothingToAFlushedTag

@@ -16,6 +16,7 @@ use Rattle.fid_table.specs.declared.types.Fid.{Fid}
 use Rattle.fid_table.specs.Tables.{Tables}
 use Rattle.wait_queue.specs.declared.types.Asked.TheVariants.{Now, Waits}
 use Rattle.wait_queue.specs.declared.types.Asker.{Asker}
+use Rattle.acme_watch.specs.declared.types.WatchRead.{WatchRead}
 use Rattle.event_book.specs.BookState.{BookState, is_living, read_waits, piece_for, asked_of, after_add, after_answer}
 use Rattle.event_book.specs.BookState.{is_on_window}
 use Rattle.plumb_ports.specs.PortList.{Port, named, names_of, number_of, with_name, kept_of, with_kept}
@@ -30,25 +31,27 @@ use Rattle.core_scene.specs.declared.deed.Deed.TheVariants as deed
 use Rattle.core_scene.specs.declared.deed.Entry.{Entry}
 use Rattle.core_scene.specs.Scenes.{SceneState, done, done_all}
 use Rattle.core_fids.specs.Contents.{content_of}
-use Rattle.core_fids.specs.Fids.{event_opening, port_opening}
+use Rattle.core_fids.specs.Fids.{event_opening, port_opening, watch_opening}
 use Rattle.core_fids.specs.Opening.{opening_refusal, content_refusal, opening_events, opening_of}
 use Rattle.core_fids.specs.Plumbers.{Plumber}
+use Rattle.core_fids.specs.declared.server.Opened.{Opened}
 use Rattle.core_fids.specs.declared.effect.EventChange.{EventChange}
 use Rattle.core_fids.specs.declared.effect.EventChange.TheVariants as events
 use Rattle.core_fids.specs.declared.refusal.Refusal.{Refusal}
 use Rattle.core_fids.specs.declared.refusal.Refusal.TheVariants as refusal
 use Rattle.core_fids.specs.Refusals.{refusal_text}
 use Rattle.core_events.specs.Asking.{opened, reads_are_full, said_to, book_asked, read_said, book_read}
-use Rattle.core_events.specs.Waits.{is_of_window, deletions}
+use Rattle.core_events.specs.Waits.{is_event_of, is_of_window, deletions}
 use Rattle.core_events.specs.PortAsking.{next_opening, can_join, joined_with, read_refusal, said_unless, read_unless}
 use Rattle.core_events.specs.PortAsking.{port_said, ports_read}
-use Rattle.core_laws.specs.Waits.{told}
+use Rattle.core_laws.specs.Waits.{WaitingRead, told, watch_told}
 use Rattle.core_laws.proofs.Lists.{IsIn}
 use Rattle.core_laws.proofs.Zips.{HasWaiting, asker_waits}
 use Rattle.core_laws.proofs.Holders.{AreOfWindows, owner_pushed}
 use Rattle.core_laws.proofs.Reactions.{IsNew}
 use Rattle.core_laws.proofs.Staying.{heard, heard_deleted}
-use Rattle.core_laws.proofs.Ties.{Ties, KeepOwners, by_window, by_no_window}
+use Rattle.core_laws.proofs.Keys.{by_window, by_no_window, port_no_window, watch_no_window}
+use Rattle.core_laws.proofs.Ties.{FileReads, Openings, Ties, KeepOwners}
 
 -- ---- openings of event files
 
@@ -62,9 +65,10 @@ owners_more b (events.Opens v) =
       | false ↦ (omega arith, λ o w h. h)
     ]
 owners_more b (events.Joins port) = (omega arith, λ o w h. h)
+owners_more b (events.Watches file) = (omega arith, λ o w h. h)
 owners_more b (events.Cancels tag) = (omega arith, λ o w h. h)
 
-counted_true : (n : ℕ) → opening_refusal n ≡ None → nat_lt n 4294967295 ≡ true
+pub counted_true : (n : ℕ) → opening_refusal n ≡ None → nat_lt n 4294967295 ≡ true
 counted_true n h =
     (elim (nat_lt n 4294967295) as (λ b. cond b None (Some refusal.TooManyOpenings) ≡ None → b ≡ true) [
       | true ↦ λ k. refl
@@ -72,19 +76,20 @@ counted_true n h =
     ]) h
 
 -- one that is newly opened has the next number, and is one of its window
-pub new_event : (world : World) (plumber : Plumber) (b : BookState) (e : EventChange) (v : Fid) (w o : ℕ)
-    → IsNew world plumber (length b.owners) e v → v.node ≡ node.File w file.Event → v.opening ≡ Some o
+pub new_event : (world : World) (plumber : Plumber) (counted : Opened) (b : BookState) (e : EventChange) (v : Fid)
+    (w o : ℕ) → counted.events ≡ length b.owners → IsNew world plumber counted e v → v.node ≡ node.File w file.Event
+    → v.opening ≡ Some o
     → (o ≡ length b.owners + 1) × ((opened b e).owners ≡ b.owners ++ w ∷ [])
-new_event world plumber b e v w o new at opens =
-    let number : Some (length b.owners + 1) ≡ Some o = ap (λ (n : Node). opening_of plumber (length b.owners)
-    (content_of n)) (sym at) ∙ sym new.opening ∙ opens in
+new_event world plumber counted b e v w o count new at opens =
+    let number : Some (counted.events + 1) ≡ Some o = ap (λ (n : Node). opening_of plumber counted (content_of n))
+    (sym at) ∙ sym new.opening ∙ opens in
     let adds : e ≡ events.Opens w = new.events ∙ ap (λ (n : Node). opening_events (content_of n)) at in
-    let counts : opening_refusal (length b.owners) ≡ None = ap (λ (n : Node). content_refusal plumber (length b.owners)
+    let counts : opening_refusal counted.events ≡ None = ap (λ (n : Node). content_refusal plumber counted
     (content_of n)) (sym at) ∙ new.counted in
-    let same : length b.owners + 1 ≡ o = cc in (
-      sym same,
+    let same : counted.events + 1 ≡ o = cc in (
+      sym same ∙ ap (λ (n : ℕ). n + 1) count,
       ap (λ (x : EventChange). (opened b x).owners) adds ∙ ap (λ (t : Bool). (cond t (after_add b w) b).owners)
-          (counted_true (length b.owners) counts),
+          (ap (λ (n : ℕ). nat_lt n 4294967295) (sym count) ∙ counted_true counted.events counts),
     )
 
 -- ---- deeds
@@ -176,6 +181,7 @@ joined_more p (events.Joins port) =
       | true ↦ (refl, omega arith)
       | false ↦ (refl, omega arith)
     ]
+joined_more p (events.Watches file) = (refl, omega arith)
 joined_more p (events.Cancels tag) = (refl, omega arith)
 
 pub joined_numbers : (p : PortsState) (e : EventChange) → AreNumbered p → AreNumbered (joined_with p e)
@@ -186,6 +192,7 @@ joined_numbers p (events.Joins port) h =
       | true ↦ call_numbers p (Join port (next_opening p)) refl h
       | false ↦ h
     ]
+joined_numbers p (events.Watches file) h = h
 joined_numbers p (events.Cancels tag) h = h
 
 names_long : (ps : List Port) → length (names_of ps) ≡ length ps
@@ -193,16 +200,16 @@ names_long [] = refl
 names_long (p ∷ ps) = ap suc (names_long ps)
 
 -- one that is newly opened has the next number, and joins
-pub new_port : (world : World) (plumber : Plumber) (openings : ℕ) (before p : PortsState) (e : EventChange) (v : Fid)
-    (k o : ℕ) → plumber.names ≡ names_of before.ports → plumber.joined ≡ before.joined → IsMore before p
-    → AreNumbered p → IsNew world plumber openings e v → v.node ≡ node.Port k → v.opening ≡ Some o
+pub new_port : (world : World) (plumber : Plumber) (counted : Opened) (before p : PortsState) (e : EventChange)
+    (v : Fid) (k o : ℕ) → plumber.names ≡ names_of before.ports → plumber.joined ≡ before.joined → IsMore before p
+    → AreNumbered p → IsNew world plumber counted e v → v.node ≡ node.Port k → v.opening ≡ Some o
     → (o ≡ before.joined + 1) × ((joined_with p e).joined ≡ before.joined + 1)
-new_port world plumber openings before p e v k o names count more numbers new at opens =
-    let number : Some (plumber.joined + 1) ≡ Some o = ap (λ (n : Node). opening_of plumber openings (content_of n))
+new_port world plumber counted before p e v k o names count more numbers new at opens =
+    let number : Some (plumber.joined + 1) ≡ Some o = ap (λ (n : Node). opening_of plumber counted (content_of n))
     (sym at) ∙ sym new.opening ∙ opens in
     let same : plumber.joined + 1 ≡ o = cc in
     let joins : e ≡ events.Joins k = new.events ∙ ap (λ (n : Node). opening_events (content_of n)) at in
-    let counts : opening_refusal plumber.joined ≡ None = ap (λ (n : Node). content_refusal plumber openings
+    let counts : opening_refusal plumber.joined ≡ None = ap (λ (n : Node). content_refusal plumber counted
     (content_of n)) (sym at) ∙ new.counted in
     let few : nat_lt p.joined 4294967295 ≡ true = ap (λ (n : ℕ). nat_lt n 4294967295) (more.joined ∙ sym count)
     ∙ counted_true plumber.joined counts in
@@ -304,26 +311,36 @@ any_none : (p : ℕ → Bool) (xs : List ℕ) → ((x : ℕ) → p x ≡ false) 
 any_none p [] h = refl
 any_none p (x ∷ xs) h = ap (λ (b : Bool). b || list_any p xs) (h x) ∙ any_none p xs h
 
-module _ (t : Tables) (es ps : List Asker) (owners next : List ℕ) (joined : ℕ) (ties : Ties t es ps owners joined)
-    (windows : List ℕ) where
+module _ (t : Tables) (r : FileReads) (o next : Openings) (ties : Ties t r o) (windows : List ℕ) where
   key_of : (P : ℕ → ℕ → Type 0) (a b c d : ℕ) → a ≡ c → b ≡ d → P a b → P c d
   key_of P a b c d e f h = subst (λ (y : ℕ). P c y) f (subst (λ (x : ℕ). P x b) e h)
 
-  pub deleted_right : KeepOwners owners next → (r : Asker) → IsIn es r
-      → heard (deletions t windows) r.conn r.tag ≡ list_any (λ v. is_on_window next v r) windows
-  deleted_right keeps r i =
-      let h : HasWaiting event_opening t t.waiting (told r) = asker_waits event_opening t t.waiting es ties.events r
-      i in
-      let later : AreOfWindows next t = λ c e w o j n g. keeps o w (ties.windows c e w o j n g) in
-      key_of (λ (c g : ℕ). heard (deletions t windows) c g ≡ list_any (λ v. is_on_window next v r) windows)
-      h.waiting.conn h.waiting.tag r.conn r.tag h.conn h.tag
+  pub deleted_right : KeepOwners o.owners next.owners → (x : Asker) → IsIn r.events x
+      → heard (deletions t windows) x.conn x.tag ≡ list_any (λ v. is_on_window next.owners v x) windows
+  deleted_right keep x i =
+      let h : HasWaiting event_opening t t.waiting (told x) =
+      asker_waits event_opening t told t.waiting r.events ties.events x i in
+      let later : AreOfWindows next.owners t = λ c e w y j n g. keep y w (ties.windows c e w y j n g) in
+      key_of (λ (c g : ℕ). heard (deletions t windows) c g ≡ list_any (λ v. is_on_window next.owners v x) windows)
+      h.waiting.conn h.waiting.tag x.conn x.tag h.conn h.tag
       (heard_deleted t windows h.waiting ties.apart h.there ∙ any_same (λ (v : ℕ). is_of_window t v h.waiting)
-      (λ (v : ℕ). is_on_window next v r) windows (λ v. by_window t next later t.waiting r h v))
+      (λ (v : ℕ). is_on_window next.owners v x) windows (λ v. by_window t next.owners later t.waiting x h v))
 
-  pub port_deleted_right : (r : Asker) → IsIn ps r → heard (deletions t windows) r.conn r.tag ≡ false
-  port_deleted_right r i =
-      let h : HasWaiting port_opening t t.waiting (told r) = asker_waits port_opening t t.waiting ps ties.ports r i in
-      key_of (λ (c g : ℕ). heard (deletions t windows) c g ≡ false) h.waiting.conn h.waiting.tag r.conn r.tag h.conn
+  -- of another kind none is
+  other_deleted : {O : Type 0} (which : Fid → Option O) → ((f : Fid) (y : O) → which f ≡ Some y → (v : ℕ)
+      → is_event_of v f.node ≡ false) → (x : WaitingRead O) → HasWaiting which t t.waiting x
+      → heard (deletions t windows) x.conn x.tag ≡ false
+  other_deleted which other x h =
+      key_of (λ (c g : ℕ). heard (deletions t windows) c g ≡ false) h.waiting.conn h.waiting.tag x.conn x.tag h.conn
       h.tag
       (heard_deleted t windows h.waiting ties.apart h.there ∙ any_none (λ (v : ℕ). is_of_window t v h.waiting) windows
-      (λ v. by_no_window t t.waiting r h v))
+      (λ v. by_no_window which other t t.waiting x h v))
+
+  pub port_deleted_right : (x : Asker) → IsIn r.ports x → heard (deletions t windows) x.conn x.tag ≡ false
+  port_deleted_right x i = other_deleted port_opening port_no_window (told x)
+      (asker_waits port_opening t told t.waiting r.ports ties.ports x i)
+
+  pub watch_deleted_right : (x : WatchRead) → IsIn r.watch x → heard (deletions t windows) x.asker.conn x.asker.tag
+      ≡ false
+  watch_deleted_right x i = other_deleted watch_opening watch_no_window (watch_told x)
+      (asker_waits watch_opening t watch_told t.waiting r.watch ties.watch x i)

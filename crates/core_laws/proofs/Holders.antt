@@ -16,8 +16,10 @@ use Rattle.fid_table.proofs.LawLemmas.{leaves, drops}
 use Rattle.fid_table.proofs.PlaceLemmas.{find_changed}
 use Rattle.fid_table.proofs.FidLemmas.{lookup_put}
 use Rattle.event_book.specs.BookState.{owner_of}
-use Rattle.core_fids.specs.Fids.{event_opening, port_opening}
+use Rattle.acme_watch.specs.declared.types.WatchFile.{WatchFile}
+use Rattle.core_fids.specs.Fids.{event_opening, port_opening, watch_opening}
 use Rattle.core_laws.proofs.Fids.{fids_joined}
+use Rattle.core_laws.proofs.FileKinds.{on}
 use Rattle.core_laws.proofs.Lists.{IsIn, in_without}
 
 abbrev pub numbered_fid : ℕ → Fid → ℕ × Fid
@@ -216,12 +218,16 @@ owner_last owners v o h =
 
 -- ---- the fid of a read that waits
 
--- it has an opening of an event file or of a port
+-- it has an opening of this number, of a kind of file whose reads wait
+abbrev pub IsRead : Fid → ℕ → Type 0
+IsRead fid opening = (event_opening fid ≡ Some opening)
+    ⊎ ((port_opening fid ≡ Some opening) ⊎ ((file : WatchFile) × (watch_opening fid ≡ Some (on file opening))))
+
 pub record IsFed (t : Tables) (w : Waiting) : Type 0 where
   pub fid : Fid
   pub is : fid_of t w.conn w.fid ≡ Some fid
   pub opening : ℕ
-  pub opens : (event_opening fid ≡ Some opening) ⊎ (port_opening fid ≡ Some opening)
+  pub opens : IsRead fid opening
 
 pub fed_same : (t u : Tables) (w : Waiting) → fid_of u w.conn w.fid ≡ fid_of t w.conn w.fid → IsFed t w → IsFed u w
 fed_same t u w same fed = record { fid = fed.fid; is = same ∙ fed.is; opening = fed.opening; opens = fed.opens }

@@ -27,7 +27,8 @@ use Rattle.core_laws.proofs.Moves.{moves_whole}
 use Rattle.core_laws.proofs.Playing.{played_first, played_parts, goes_on, PlaysOn}
 use Rattle.core_laws.proofs.Refused.{refusals_exact}
 use Rattle.core_laws.proofs.Sessions.{flushes_answered}
-use Rattle.core_laws.proofs.Tied.{tag_or_version, waits_tied, tags_apart}
+use Rattle.core_laws.proofs.Tied.{waits_tied, tags_apart}
+use Rattle.core_laws.proofs.Versions.{tag_or_version}
 use Rattle.core_laws.proofs.WriteBacks.{acted_once}
 use Rattle.core_laws.proofs.Unsents.{sent_or_unsent}
 use Rattle.core_laws.proofs.Windows.{possible_prefix, all_lawful, histories}

@@ -1,7 +1,7 @@
 -- Lists without what passes a test, and members of lists.
 use Rattle.std.proofs.Common.{◌≡◌, ◌⊎◌, inl, inr, Bool, true, false, not, cond, ◌||◌, List, [], ◌∷◌, ◌++◌, All, refl}
-use Rattle.std.proofs.Common.{ap, subst, ◌∙◌}
-use Rattle.std.specs.List.{filter, list_any}
+use Rattle.std.proofs.Common.{ap, subst, ◌∙◌, Some}
+use Rattle.std.specs.List.{filter, find, list_any}
 use Rattle.std.proofs.lemmas.List.Elements.{All-nil, All-cons, All-head, All-tail}
 
 module _ {A : Type 0} where
@@ -67,6 +67,19 @@ module _ {A : Type 0} where
   pub all_by : (P : A → Type 0) (xs : List A) → ((x : A) → IsIn xs x → P x) → All P xs
   all_by P [] h = All-nil P
   all_by P (x ∷ xs) h = All-cons P x xs (h x (inl refl)) (all_by P xs (λ y i. h y (inr i)))
+
+  pub all_in : (P : A → Type 0) (xs : List A) (x : A) → All P xs → IsIn xs x → P x
+  all_in P [] x h i = absurd i
+  all_in P (y ∷ ys) x h (inl e) = subst P e (All-head P y ys h)
+  all_in P (y ∷ ys) x h (inr i) = all_in P ys x (All-tail P y ys h) i
+
+  pub found : (p : A → Bool) (xs : List A) (x : A) → find p xs ≡ Some x → IsIn xs x
+  found p [] x h = absurd cc
+  found p (y ∷ ys) x h =
+      (elim (p y) as (λ b. cond b (Some y) (find p ys) ≡ Some x → IsIn (y ∷ ys) x) [
+        | true ↦ λ k. inl cc
+        | false ↦ λ k. inr (found p ys x k)
+      ]) h
 
   pub in_push : (xs : List A) (y x : A) → IsIn (xs ++ y ∷ []) x → IsIn xs x ⊎ (y ≡ x)
   in_push [] y x (inl e) = inr e

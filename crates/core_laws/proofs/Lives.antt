@@ -26,7 +26,7 @@ use Rattle.event_book.proofs.LawfulLemmas.{lawful-add, lawful-put_in, lawful-wai
 use Rattle.event_book.proofs.LawfulLemmas.{lawful-written_back, lawful-cancel, lawful-leave, lawful-delete}
 use Rattle.event_book.proofs.LifeLemmas.{ended_stays}
 use Rattle.core_fids.specs.declared.effect.Answer.{Answer}
-use Rattle.core_fids.specs.declared.effect.Answer.TheVariants.{Says, Reads, ReadsPort}
+use Rattle.core_fids.specs.declared.effect.Answer.TheVariants.{Says, Reads, ReadsPort, ReadsWatch}
 use Rattle.core_fids.specs.declared.effect.Effect.{Effect}
 use Rattle.core_fids.specs.declared.effect.Effect.TheVariants as effect
 use Rattle.core_fids.specs.declared.effect.EventChange.{EventChange}
@@ -194,6 +194,7 @@ module _ (Q : Life → Bool) (all : AllKeep Q) (first : BookState) (at : ℕ) wh
         | true ↦ keep_add s w k
         | false ↦ k
       ]
+  keep_opened s (events.Watches file) k = k
   keep_opened s (events.Cancels tag) k = k
   keep_opened s (events.Joins port) k = k
 
@@ -258,6 +259,7 @@ module _ (Q : Life → Bool) (all : AllKeep Q) (first : BookState) (at : ℕ) wh
   keep_answer t s conn tag (Some (Says body)) k = k
   keep_answer t s conn tag (Some (Reads fid opening count)) k = keep_read t s (asker_of conn tag opening count) k
   keep_answer t s conn tag (Some (ReadsPort fid opening count)) k = k
+  keep_answer t s conn tag (Some (ReadsWatch fid opening count)) k = k
 
   keep_message : (t : Tables) (s : BookState) (m : Kind) (a : Option Answer) → K s → K (message_book t s m a at)
   keep_message t s (kind.Dials conn) a k = k
@@ -335,6 +337,7 @@ module _ (first : BookState) (at : ℕ) where
   end_cancelled s conn events.Nothing k = k
   end_cancelled s conn (events.Opens w) k = k
   end_cancelled s conn (events.Joins port) k = k
+  end_cancelled s conn (events.Watches file) k = k
   end_cancelled s conn (events.Cancels tag) k = end_on s (after_cancel s conn tag) k (lawful-cancel s conn tag k.lawful)
       k.latest ((ended_stays s k.lawful).cancel conn tag)
 

@@ -11,7 +11,9 @@ use Rattle.core_events.specs.PortServing.{ports_served}
 use Rattle.core_events.proofs.PortIdles.{none_said}
 use Rattle.acme_core.specs.Run.{step, run, enabled, AreEnabled, enabled_in}
 use Rattle.core_parts.specs.States.{State, start_of}
-use Rattle.acme_core.proofs.Idling.{idle_after, ports_idle_after}
+use Rattle.core_watch.specs.Serving.{watch_served}
+use Rattle.acme_core.proofs.Idling.{idle_after, ports_idle_after, watch_idle_after}
+use Rattle.acme_core.proofs.Watching.{none_said as none_followed}
 use Rattle.core_steps.specs.Order.{as_asked}
 use Rattle.core_steps.proofs.Idling.{silent}
 use Rattle.core_steps.proofs.Orders.{none_asked}
@@ -95,10 +97,11 @@ no_items journal = fold_items (start_of journal.format) journal.events refl
 
 -- so an entry without deeds answers no read that waits
 pub silent_after : (journal : Journal) (at : ℕ) (t : Tables) → as_asked t (served_all at
-    (put_living [] (run journal).scene.book (run journal).scene.items) ∷ ports_served (run journal).scene.ports ∷ [])
-    ≡ []
+    (put_living [] (run journal).scene.book (run journal).scene.items) ∷ ports_served (run journal).scene.ports
+    ∷ watch_served at (run journal).scene.watch ∷ []) ≡ []
 silent_after journal at t =
     none_asked t (served_all at (put_living [] (run journal).scene.book (run journal).scene.items))
-    (ports_served (run journal).scene.ports)
+    (ports_served (run journal).scene.ports) (watch_served at (run journal).scene.watch)
     (silent at [] (run journal).scene.book (run journal).scene.items (idle_after journal) (no_items journal))
     (none_said (run journal).scene.ports (ports_idle_after journal))
+    (none_followed at (run journal).scene.watch (watch_idle_after journal))

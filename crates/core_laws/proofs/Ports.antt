@@ -83,6 +83,7 @@ module _ (P : Asker → Type 0) where
         | true ↦ h
         | false ↦ h
       ]
+  joined_reads s (events.Watches file) h = h
   joined_reads s (events.Cancels tag) h = h
 
   ask_reads : (s : PortsState) (x : Asker) → P x → All P s.reads → All P (after_ask s x).reads
@@ -158,6 +159,7 @@ module _ (P : Asker → Type 0) where
   cancelled_reads s conn events.Nothing h = h
   cancelled_reads s conn (events.Opens w) h = h
   cancelled_reads s conn (events.Joins port) h = h
+  cancelled_reads s conn (events.Watches file) h = h
   cancelled_reads s conn (events.Cancels tag) h = All-filter (λ x. not (is_read conn tag x)) P s.reads h
 
 -- ---- an opening that is left has no reads

@@ -6,7 +6,7 @@ use Rattle.event_book.specs.BookState.{BookState}
 use Rattle.am_journal.specs.declared.event.Event.{Event}
 use Rattle.am_counter.specs.Played.{ArePlayed}
 use Rattle.core_fids.specs.declared.effect.Answer.{Answer}
-use Rattle.core_fids.specs.declared.effect.Answer.TheVariants.{Says, Reads, ReadsPort}
+use Rattle.core_fids.specs.declared.effect.Answer.TheVariants.{Says, Reads, ReadsPort, ReadsWatch}
 use Rattle.core_fids.specs.declared.effect.Effect.{Effect}
 use Rattle.core_fids.specs.declared.effect.Effect.TheVariants as effect
 use Rattle.core_events.specs.declared.response.Response.{Response}
@@ -21,22 +21,33 @@ use Rattle.plumb_ports.specs.PortsState.{PortsState}
 use Rattle.core_events.specs.PortAsking.{port_said}
 use Rattle.core_events.specs.PortClosing.{ports_freed}
 use Rattle.core_steps.specs.PortReads.{port_read_in, port_read_of, asked_tables, asked_ports}
+use Rattle.core_steps.specs.WatchReads.{watch_asked, watch_read_in, followed_tables, followed_watch}
+use Rattle.acme_watch.specs.Watching.{WatchState}
+use Rattle.core_watch.specs.Answering.{answered_with}
+use Rattle.core_watch.specs.Asking.{watch_said}
 use Rattle.core_laws.proofs.Ports.{read_reads, joined_reads, acted_reads, served_reads, cancelled_reads, freed_reads}
 use Rattle.core_laws.proofs.Ports.{without_fids_reads}
 use Rattle.core_intents.specs.Doings.{doing_of, entry_of}
 use Rattle.core_parts.specs.Doing.{Doing}
 use Rattle.core_parts.specs.Kinds.{kind_of}
 use Rattle.acme_core.specs.Run.{step, run}
-use Rattle.core_steps.specs.Stages.{asker_of, answer_book, answer_tables, acted, read_tables, grown_tables, grown_book}
-use Rattle.core_steps.specs.Stages.{open_ports, grown_ports, read_book, book_after, said}
-use Rattle.core_closing.specs.Closing.{left_book, left_ports, ended_tables}
+use Rattle.core_steps.specs.Stages.{asker_of, answer_book, answer_tables, acted, read_tables, port_tables, grown_tables}
+use Rattle.core_steps.specs.Stages.{grown_book, open_ports, grown_ports, watch_read_at, open_watch, grown_watch}
+use Rattle.core_steps.specs.Stages.{read_book, book_after, said}
+use Rattle.core_closing.specs.Closing.{left_book, left_ports, closed_watch, ended_tables}
 use Rattle.core_parts.specs.States.{Present, State, present, next_entry}
 use Rattle.acme_core.proofs.Goes.{run-push}
+use Rattle.core_fids.specs.Fids.{event_opening, port_opening, watch_opening}
 use Rattle.core_laws.specs.Saying.{said_from}
+use Rattle.core_laws.specs.Waits.{told, watch_told}
 use Rattle.core_laws.proofs.Books.{IsBook, book_without, book_without_fids, book_cancelled, book_written, book_closed}
-use Rattle.core_laws.proofs.Tells.{Tells, Reading, IsWaiting, OfMessage, tells}
+use Rattle.core_laws.proofs.Followers.{leaves_watch, left_watch_without}
+use Rattle.core_laws.proofs.Tells.{Tells, Reading, Following, IsWaiting, OfMessage, tells}
+use Rattle.core_laws.proofs.Ties.{Ties, reads_of, openings_of}
+use Rattle.core_laws.proofs.Watches.{acted_same, answered_same, same_all, follow_all, watches_all, served_all_watch}
 use Rattle.core_laws.proofs.Wells.{IsWell, later, done_waiting, cancelled_waiting, reading_book, waits_waiting}
 use Rattle.core_laws.proofs.Wells.{items_book, well_step}
+use Rattle.core_laws.proofs.Zips.{all_wait}
 use Rattle.am_journal.specs.declared.event.Journal.{Journal}
 use Rattle.am_journal.specs.Journal.{longer}
 use Rattle.core_laws.specs.Fronts.{followed}
@@ -46,7 +57,17 @@ module _ (L : ℕ → ℕ → Type 0) where
   -- it is true of each read that waits
   abbrev pub IsQuiet : State → Type 0
   IsQuiet s = All (IsWaiting L) s.tables.waiting × All (Reading L) s.scene.book.reads
-      × All (Reading L) s.scene.ports.reads
+      × All (Reading L) s.scene.ports.reads × All (Following L) s.scene.watch.reads
+
+  -- so it is where it is true of those of the sessions
+  pub quiet_by : (s : State) → Ties s.tables (reads_of s.scene.book s.scene.ports s.scene.watch)
+      (openings_of s.scene.book s.scene.ports s.scene.watch) → All (IsWaiting L) s.tables.waiting → IsQuiet s
+  quiet_by s ties h = (
+    h,
+    all_wait event_opening s.tables told L s.tables.waiting s.scene.book.reads ties.events h,
+    all_wait port_opening s.tables told L s.tables.waiting s.scene.ports.reads ties.ports h,
+    all_wait watch_opening s.tables watch_told L s.tables.waiting s.scene.watch.reads ties.watch h,
+  )
 
   book_of : (s : State) → IsWell s → IsQuiet s → IsBook (Reading L) (s.entries + 1) s.scene.book
   book_of s well quiet = let b = later s well in record {
@@ -72,6 +93,7 @@ module _ (L : ℕ → ℕ → Type 0) where
   answered_waiting t b conn tag (Some (Reads fid opening count)) own h = waits_waiting (IsWaiting L)
       (read_said t b (asker_of conn tag opening count)) t conn tag fid own h
   answered_waiting t b conn tag (Some (ReadsPort fid opening count)) own h = h
+  answered_waiting t b conn tag (Some (ReadsWatch fid opening count)) own h = h
 
   asked_waiting : (t : Tables) (p : PortsState) (conn tag : ℕ) (a : Option Answer) → L conn tag
       → All (IsWaiting L) t.waiting
@@ -81,6 +103,17 @@ module _ (L : ℕ → ℕ → Type 0) where
   asked_waiting t p conn tag (Some (Reads fid opening count)) own h = h
   asked_waiting t p conn tag (Some (ReadsPort fid opening count)) own h = waits_waiting (IsWaiting L)
       (port_said t p (asker_of conn tag opening count)) t conn tag fid own h
+  asked_waiting t p conn tag (Some (ReadsWatch fid opening count)) own h = h
+
+  followed_waiting : (t : Tables) (w : WatchState) (conn tag : ℕ) (a : Option Answer) (at : ℕ) → L conn tag
+      → All (IsWaiting L) t.waiting
+      → All (IsWaiting L) (followed_tables t w (watch_read_in conn tag a at)).waiting
+  followed_waiting t w conn tag None at own h = h
+  followed_waiting t w conn tag (Some (Says body)) at own h = h
+  followed_waiting t w conn tag (Some (Reads fid opening count)) at own h = h
+  followed_waiting t w conn tag (Some (ReadsPort fid opening count)) at own h = h
+  followed_waiting t w conn tag (Some (ReadsWatch fid opening count)) at own h = waits_waiting (IsWaiting L)
+      (watch_said t w (watch_asked conn tag opening count)) t conn tag fid own h
 
   asked_reads : (t : Tables) (p : PortsState) (conn tag : ℕ) (a : Option Answer) → L conn tag → All (Reading L) p.reads
       → All (Reading L) (asked_ports t p (port_read_in conn tag a)).reads
@@ -89,6 +122,16 @@ module _ (L : ℕ → ℕ → Type 0) where
   asked_reads t p conn tag (Some (Reads fid opening count)) own h = h
   asked_reads t p conn tag (Some (ReadsPort fid opening count)) own h = read_reads (Reading L) t p
       (asker_of conn tag opening count) own h
+  asked_reads t p conn tag (Some (ReadsWatch fid opening count)) own h = h
+
+  followed_reads : (t : Tables) (w : WatchState) (conn tag : ℕ) (a : Option Answer) (at : ℕ) → L conn tag
+      → All (Following L) w.reads → All (Following L) (followed_watch t w (watch_read_in conn tag a at)).reads
+  followed_reads t w conn tag None at own h = h
+  followed_reads t w conn tag (Some (Says body)) at own h = h
+  followed_reads t w conn tag (Some (Reads fid opening count)) at own h = h
+  followed_reads t w conn tag (Some (ReadsPort fid opening count)) at own h = h
+  followed_reads t w conn tag (Some (ReadsWatch fid opening count)) at own h = follow_all (Following L) t w
+      (watch_asked conn tag opening count) at own h
 
   answered_book : (at : ℕ) (t : Tables) (b : BookState) (conn tag : ℕ) (a : Option Answer) → L conn tag
       → IsBook (Reading L) at b → IsBook (Reading L) at (answer_book t b conn tag a at)
@@ -97,14 +140,16 @@ module _ (L : ℕ → ℕ → Type 0) where
   answered_book at t b conn tag (Some (Reads fid opening count)) own book = reading_book (Reading L) at t b
       (asker_of conn tag opening count) own book
   answered_book at t b conn tag (Some (ReadsPort fid opening count)) own book = book
+  answered_book at t b conn tag (Some (ReadsWatch fid opening count)) own book = book
 
   grown_waiting : (s : Present) (k : Kind) (d : Doing) → OfMessage L k → All (IsWaiting L) s.tables.waiting
       → All (IsWaiting L) (grown_tables s k d).waiting
   grown_waiting s (kind.Dials conn) d own h = h
   grown_waiting s (kind.Asks conn tag) d own h =
-      asked_waiting (read_tables s (kind.Asks conn tag) d) (acted s d).ports conn tag d.answer own
+      followed_waiting (port_tables s (kind.Asks conn tag) d) (acted s d).watch conn tag d.answer (next_entry s) own
+      (asked_waiting (read_tables s (kind.Asks conn tag) d) (acted s d).ports conn tag d.answer own
       (answered_waiting (grown_with s.tables conn d.effect) s.scene.book conn tag d.answer own
-      (put_waiting s.tables conn d.effect h))
+      (put_waiting s.tables conn d.effect h)))
   grown_waiting s (kind.Ends conn why) d own h = h
   grown_waiting s (kind.Takes conn) d own h = h
   grown_waiting s kind.Acts d own h = h
@@ -134,7 +179,32 @@ module _ (L : ℕ → ℕ → Type 0) where
       joined_reads (Reading L) (asked_ports (read_tables s k d) (acted s d).ports (port_read_of k d.answer)) d.events
       (message_reads s k d own (acted_reads (Reading L) (entry_of s d) s.scene d.deeds h))
 
+  -- and the files `log` and `jobs`
+  follows : (s : Present) (k : Kind) (d : Doing) → OfMessage L k → All (Following L) (acted s d).watch.reads
+      → All (Following L) (followed_watch (port_tables s k d) (acted s d).watch (watch_read_at s k d)).reads
+  follows s (kind.Dials conn) d own h = h
+  follows s (kind.Asks conn tag) d own h = followed_reads (port_tables s (kind.Asks conn tag) d) (acted s d).watch conn
+      tag d.answer (next_entry s) own h
+  follows s (kind.Ends conn why) d own h = h
+  follows s (kind.Takes conn) d own h = h
+  follows s kind.Acts d own h = h
+
+  pub quiet_watch : (s : Present) (k : Kind) (d : Doing) → OfMessage L k → All (Following L) s.scene.watch.reads
+      → All (Following L) (open_watch s k d).reads
+  quiet_watch s k d own h =
+      watches_all (Following L) (followed_watch (port_tables s k d) (acted s d).watch (watch_read_at s k d)) d.events
+      (follows s k d own (same_all (Following L) s.scene.watch (acted s d).watch
+      (acted_same (entry_of s d) s.scene d.deeds) h))
+
   -- ---- what ends
+
+  ended_reads : (at : ℕ) (t : Tables) (w : WatchState) (k : Kind) (d : Doing) → All (Following L) w.reads
+      → All (Following L) (closed_watch at t k d w).reads
+  ended_reads at t w k d h =
+      let answered : WatchState = answered_with at w d.answers in
+      subst (All (Following L)) (sym (left_watch_without at t k d answered))
+      (All-filter (λ r. not (leaves_watch t k d r)) (Following L) answered.reads
+      (same_all (Following L) w answered (answered_same at w d.answers) h))
 
   left_reads : (t : Tables) (p : PortsState) (k : Kind) (d : Doing) → All (Reading L) p.reads
       → All (Reading L) (left_ports t k d p).reads
@@ -190,7 +260,8 @@ module _ (L : ℕ → ℕ → Type 0) where
   quiet_says s e own well quiet =
       tells L (present s) (kind_of e) (doing_of (present s) e) own
       (quiet_read (present s) (kind_of e) (doing_of (present s) e) own (book_of s well quiet))
-      (quiet_ports (present s) (kind_of e) (doing_of (present s) e) own quiet.2) quiet.0
+      (quiet_ports (present s) (kind_of e) (doing_of (present s) e) own quiet.2)
+      (quiet_watch (present s) (kind_of e) (doing_of (present s) e) own quiet.3) quiet.0
 
   pub quiet_step : (s : State) (e : Event) → OfMessage L (kind_of e) → IsWell s → IsQuiet s → IsQuiet (step s e)
   unfolding step
@@ -211,6 +282,8 @@ module _ (L : ℕ → ℕ → Type 0) where
         closed.reads,
         left_reads t (grown_ports p k d) k d (served_reads (Reading L) (open_ports p k d)
             (quiet_ports p k d own quiet.2)),
+        ended_reads at t (grown_watch p k d) k d (served_all_watch (Following L) at (open_watch p k d)
+            (quiet_watch p k d own quiet.3)),
       )
 
   -- ---- all events

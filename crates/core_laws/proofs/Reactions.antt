@@ -12,9 +12,9 @@ use Rattle.ninep_types.specs.declared.message.TBody.TheVariants as t
 use Rattle.ninep_types.specs.declared.message.RBody.TheVariants as r
 use Rattle.acme_tree.specs.Trees.{is_live}
 use Rattle.acme_tree.specs.declared.node.Node.{Node}
-use Rattle.acme_tree.specs.declared.node.Node.TheVariants as node
-use Rattle.acme_tree.specs.declared.node.WinFile.TheVariants as file
 use Rattle.acme_tree.specs.declared.node.World.{World}
+use Rattle.acme_watch.specs.declared.types.WatchFile.{WatchFile}
+use Rattle.acme_watch.specs.declared.types.WatchFile.TheVariants.{Log, Jobs}
 use Rattle.fid_table.specs.declared.types.Fid.{Fid}
 use Rattle.fid_table.specs.Tables.{Tables, fid_of}
 use Rattle.core_addresses.specs.Data.{data_taken}
@@ -25,13 +25,15 @@ use Rattle.core_windows.specs.Windows.{Window, window_at, named}
 use Rattle.core_fids.specs.declared.content.Content.{Content}
 use Rattle.core_fids.specs.declared.content.Content.TheVariants as content
 use Rattle.core_fids.specs.declared.effect.Answer.{Answer}
-use Rattle.core_fids.specs.declared.effect.Answer.TheVariants.{Says, Reads, ReadsPort}
+use Rattle.core_fids.specs.declared.effect.Answer.TheVariants.{Says, Reads, ReadsPort, ReadsWatch}
 use Rattle.core_fids.specs.declared.effect.Reaction.{Reaction}
 use Rattle.core_fids.specs.declared.effect.Effect.{Effect}
 use Rattle.core_fids.specs.declared.effect.Effect.TheVariants as effect
 use Rattle.core_fids.specs.declared.effect.EventChange.{EventChange}
 use Rattle.core_fids.specs.declared.effect.EventChange.TheVariants as events
 use Rattle.core_fids.specs.declared.effect.Demand.TheVariants as demand
+use Rattle.core_fids.specs.declared.effect.WatchOpening.{WatchOpening}
+use Rattle.core_fids.specs.declared.server.Opened.{Opened}
 use Rattle.core_fids.specs.declared.refusal.Refusal.{Refusal}
 use Rattle.core_fids.specs.declared.refusal.Refusal.TheVariants as refusal
 use Rattle.core_fids.specs.declared.walking.WalkEnd.{WalkEnd}
@@ -43,7 +45,7 @@ use Rattle.core_fids.specs.Attaching.{or_attaches}
 use Rattle.core_fids.specs.Contents.{content_of}
 use Rattle.core_answers.specs.Reactions.{session_reaction, comes_first, reaction}
 use Rattle.core_answers.specs.Erring.{fits_in, fits_tag, errors_of, root_errors, errors_refusal}
-use Rattle.core_fids.specs.Fids.{at_event, at_port, event_opening, port_opening, is_there, is_used, is_open, opened_fid}
+use Rattle.core_fids.specs.Fids.{event_opening, port_opening, watch_opening, is_there, is_used, is_open, opened_fid}
 use Rattle.core_fids.specs.Fids.{is_for_reading, is_for_writing}
 use Rattle.core_fids.specs.Opening.{first_refusal, content_refusal, opening_events, opening_of, open_refusal, or_opens}
 use Rattle.core_fids.specs.Opening.{open_fid, denial, clunk_fid, remove_fid}
@@ -51,12 +53,13 @@ use Rattle.core_fids.specs.Plainly.{does}
 use Rattle.core_fids.specs.Plumbers.{Plumber}
 use Rattle.core_fids.specs.Servers.{ServerState, world_by, fid_by}
 use Rattle.core_fids.specs.Directories.{Tread, place_at, read_dir, stat_fid}
-use Rattle.core_answers.specs.Reading.{read_opening, read_port, read_content, use_refusal, or_reads, lowered, read_fid}
+use Rattle.core_answers.specs.Reading.{read_opening, read_port, read_watch, read_content, use_refusal, or_reads}
+use Rattle.core_answers.specs.Reading.{lowered, read_fid}
 use Rattle.core_fids.specs.Refusals.{refusal_with_effect, reaction_or_refusal}
 use Rattle.core_answers.specs.Texts.{text_at, right_of}
 use Rattle.core_fids.specs.Walking.{course, new_refusal, walk_refusal, arrives_at, or_walks, walk_from}
 use Rattle.core_answers.specs.Writing.{Twrite, if_lives, append_reaction, add_reaction, or_errors, errors_reaction}
-use Rattle.core_answers.specs.Writing.{write_content, write_fid}
+use Rattle.core_answers.specs.Writing.{answer_reaction, watch_reaction, write_content, write_fid}
 
 -- a fid that isn't open has no opening
 abbrev pub IsModed : Fid → Type 0
@@ -83,54 +86,11 @@ PutsSane New tables conn (effect.Frees number) = Unit {0}
 
 -- A fid is newly opened by what this does to openings: its node is there, it has the next number, and that can be
 -- counted.
-pub record IsNew (world : World) (plumber : Plumber) (openings : ℕ) (e : EventChange) (value : Fid) : Type 0 where
+pub record IsNew (world : World) (plumber : Plumber) (opened : Opened) (e : EventChange) (value : Fid) : Type 0 where
   pub live : is_live world plumber.names value.node ≡ true
-  pub opening : value.opening ≡ opening_of plumber openings (content_of value.node)
+  pub opening : value.opening ≡ opening_of plumber opened (content_of value.node)
   pub events : e ≡ opening_events (content_of value.node)
-  pub counted : content_refusal plumber openings (content_of value.node) ≡ None
-
--- an opening of an event file, or of a port, is the fid's
-pub of_event : (node : Node) (o : Option ℕ) (x : ℕ) → at_event node o ≡ Some x → o ≡ Some x
-of_event node.Root o x h = absurd cc
-of_event node.Cons o x h = absurd cc
-of_event node.ConsCtl o x h = absurd cc
-of_event node.Index o x h = absurd cc
-of_event node.Label o x h = absurd cc
-of_event node.NewDir o x h = absurd cc
-of_event node.PlumbRoot o x h = absurd cc
-of_event node.Send o x h = absurd cc
-of_event node.Rules o x h = absurd cc
-of_event (node.Window w) o x h = absurd cc
-of_event (node.Port k) o x h = absurd cc
-of_event (node.File w file.Addr) o x h = absurd cc
-of_event (node.File w file.Body) o x h = absurd cc
-of_event (node.File w file.Ctl) o x h = absurd cc
-of_event (node.File w file.Data) o x h = absurd cc
-of_event (node.File w file.Errors) o x h = absurd cc
-of_event (node.File w file.Event) o x h = h
-of_event (node.File w file.Tag) o x h = absurd cc
-of_event (node.File w file.Xdata) o x h = absurd cc
-
-pub of_port : (node : Node) (o : Option ℕ) (x : ℕ) → at_port node o ≡ Some x → o ≡ Some x
-of_port node.Root o x h = absurd cc
-of_port node.Cons o x h = absurd cc
-of_port node.ConsCtl o x h = absurd cc
-of_port node.Index o x h = absurd cc
-of_port node.Label o x h = absurd cc
-of_port node.NewDir o x h = absurd cc
-of_port node.PlumbRoot o x h = absurd cc
-of_port node.Send o x h = absurd cc
-of_port node.Rules o x h = absurd cc
-of_port (node.Window w) o x h = absurd cc
-of_port (node.Port k) o x h = h
-of_port (node.File w file.Addr) o x h = absurd cc
-of_port (node.File w file.Body) o x h = absurd cc
-of_port (node.File w file.Ctl) o x h = absurd cc
-of_port (node.File w file.Data) o x h = absurd cc
-of_port (node.File w file.Errors) o x h = absurd cc
-of_port (node.File w file.Event) o x h = absurd cc
-of_port (node.File w file.Tag) o x h = absurd cc
-of_port (node.File w file.Xdata) o x h = absurd cc
+  pub counted : content_refusal plumber opened (content_of value.node) ≡ None
 
 -- so the fid that is put has it, too
 pub keeps : (which : Node → Option ℕ → Option ℕ) (New : Fid → Type 0) (tables : Tables) (conn number : ℕ) (value : Fid)
@@ -142,11 +102,12 @@ keeps which New tables conn number value own put f o is opens =
     let both : (value.opening ≡ Some o) × (value.node ≡ f.node) = put.keeps f o is mine in
     ap (λ (n : Node). which n value.opening) both.1 ∙ ap (which f.node) (both.0 ∙ sym mine) ∙ opens
 
--- the opening is that of this fid, of an event file or of a port
-pub record HasOpening (which : Fid → Option ℕ) (tables : Tables) (conn number opening : ℕ) : Type 0 where
-  pub fid : Fid
-  pub is : fid_of tables conn number ≡ Some fid
-  pub opens : which fid ≡ Some opening
+-- the opening is that of this fid, of a file whose reads wait
+pub record HasOpening {O : Type 0} (which : Fid → Option O) (tables : Tables) (conn number : ℕ) (opening : O) : Type 0
+  where
+    pub fid : Fid
+    pub is : fid_of tables conn number ≡ Some fid
+    pub opens : which fid ≡ Some opening
 
 -- what reads does nothing else
 abbrev pub ReadsSane : Tables → ℕ → Reaction → Answer → Type 0
@@ -156,6 +117,9 @@ ReadsSane tables conn d (Reads number opening count) =
     × (d.changes ≡ []) × (d.demand ≡ demand.Nothing)
 ReadsSane tables conn d (ReadsPort number opening count) =
     (d.effect ≡ effect.Nothing) × HasOpening port_opening tables conn number opening × (d.events ≡ events.Nothing)
+    × (d.changes ≡ []) × (d.demand ≡ demand.Nothing)
+ReadsSane tables conn d (ReadsWatch number opening count) =
+    (d.effect ≡ effect.Nothing) × HasOpening watch_opening tables conn number opening × (d.events ≡ events.Nothing)
     × (d.changes ≡ []) × (d.demand ≡ demand.Nothing)
 
 abbrev pub IsSane : (EventChange → Fid → Type 0) → Tables → ℕ → Reaction → Type 0
@@ -193,10 +157,10 @@ third_none false false x y None c e = e
 third_none false false x y (Some z) c e = absurd cc
 
 -- what Topen opens is such a one
-abbrev pub OpensNew : (EventChange → Fid → Type 0) → World → Plumber → ℕ → Type 0
-OpensNew New world plumber openings = (f : Fid) (mode : ℕ) → is_live world plumber.names f.node ≡ true →
-    content_refusal plumber openings (content_of f.node) ≡ None
-    → New (opening_events (content_of f.node)) (opened_fid f mode (opening_of plumber openings (content_of f.node)))
+abbrev pub OpensNew : (EventChange → Fid → Type 0) → World → Plumber → Opened → Type 0
+OpensNew New world plumber opened = (f : Fid) (mode : ℕ) → is_live world plumber.names f.node ≡ true →
+    content_refusal plumber opened (content_of f.node) ≡ None
+    → New (opening_events (content_of f.node)) (opened_fid f mode (opening_of plumber opened (content_of f.node)))
 
 module _ (New : EventChange → Fid → Type 0) (server : ServerState)
     (moded : (number : ℕ) (f : Fid) → fid_by server number ≡ Some f → IsModed f) where
@@ -306,15 +270,15 @@ module _ (New : EventChange → Fid → Type 0) (server : ServerState)
       (λ e. arrives_sane newfid (world_by server) led.qids led.end (walk_free number newfid f is e))
 
   abbrev News : Type 0
-  News = OpensNew New (world_by server) server.plumber server.openings
+  News = OpensNew New (world_by server) server.plumber server.opened
 
   opens_sane : (o : Option Refusal) (number : ℕ) (f : Fid) (mode : ℕ) → News → fid_by server number ≡ Some f
       → open_refusal server f mode ≡ o → Sane (or_opens o server number f mode)
   opens_sane None number f mode news is e =
       let live : is_live (world_by server) server.plumber.names f.node ≡ true = not-false _
       (first_false (not (is_live (world_by server) server.plumber.names f.node)) _ _ e) in
-      let counted : content_refusal server.plumber server.openings (content_of f.node) ≡ None = third_none _ (is_open f)
-      _ _ _ (content_refusal server.plumber server.openings (content_of f.node)) e in (
+      let counted : content_refusal server.plumber server.opened (content_of f.node) ≡ None = third_none _ (is_open f)
+      _ _ _ (content_refusal server.plumber server.opened (content_of f.node)) e in (
         put_new number _ (λ h. absurd cc) (closed number f is (second_false _ (is_open f) _ _ _ e))
             (λ o h. news f mode live counted),
         tt,
@@ -350,6 +314,11 @@ module _ (New : EventChange → Fid → Type 0) (server : ServerState)
   read_port_sane asked f None is e = tt
   read_port_sane asked f (Some opening) is e = (tt, (refl, record { fid = f; is = is; opens = e }, refl, refl, refl))
 
+  read_watch_sane : (asked : Tread) (f : Fid) (o : Option WatchOpening) → fid_by server asked.number ≡ Some f
+      → watch_opening f ≡ o → Sane (read_watch asked o)
+  read_watch_sane asked f None is e = tt
+  read_watch_sane asked f (Some opening) is e = (tt, (refl, record { fid = f; is = is; opens = e }, refl, refl, refl))
+
   data_sane : (w count : ℕ) (o : Option Window) → IsSane New server.tables server.conn (data_reaction w count o)
   data_sane w count None = (tt, tt)
   data_sane w count (Some window) = (tt, tt)
@@ -375,6 +344,7 @@ module _ (New : EventChange → Fid → Type 0) (server : ServerState)
   read_content_sane asked f content.SendText is = tt
   read_content_sane asked f content.RulesText is = (tt, tt)
   read_content_sane asked f (content.PortOf k) is = read_port_sane asked f (port_opening f) is refl
+  read_content_sane asked f (content.WatchOf file) is = read_watch_sane asked f (watch_opening f) is refl
 
   read_sane : (asked : Tread) (o : Option Fid) → fid_by server asked.number ≡ o → Sane (read_fid server asked o)
   read_sane asked None is = tt
@@ -426,6 +396,14 @@ module _ (New : EventChange → Fid → Type 0) (server : ServerState)
   taking_sane w bytes None = tt
   taking_sane w bytes (Some window) = data_set_sane w (length bytes) (data_taken window.body bytes)
 
+  answers_sane : (asked : Twrite) (o : Option WatchOpening) → Sane (answer_reaction asked o)
+  answers_sane asked None = tt
+  answers_sane asked (Some opening) = (tt, tt)
+
+  watch_sane : (asked : Twrite) (f : Fid) (file : WatchFile) → Sane (watch_reaction asked f file)
+  watch_sane asked f Log = tt
+  watch_sane asked f Jobs = answers_sane asked (watch_opening f)
+
   write_content_sane : (asked : Twrite) (f : Fid) (c : Content) → fid_by server asked.number ≡ Some f
       → Sane (write_content server.windows asked f c)
   write_content_sane asked f content.Directory is = tt
@@ -447,6 +425,7 @@ module _ (New : EventChange → Fid → Type 0) (server : ServerState)
   write_content_sane asked f content.SendText is = (put_again asked.number f _ is refl refl refl, tt)
   write_content_sane asked f content.RulesText is = (put_again asked.number f _ is refl refl refl, tt)
   write_content_sane asked f (content.PortOf k) is = tt
+  write_content_sane asked f (content.WatchOf file) is = watch_sane asked f file
 
   write_sane : (asked : Twrite) (o : Option Fid) → fid_by server asked.number ≡ o → Sane (write_fid server asked o)
   write_sane asked None is = tt

@@ -7,20 +7,24 @@ use Rattle.ninep_types.specs.declared.message.TBody.{TBody}
 use Rattle.fid_table.specs.Tables.{Tables}
 use Rattle.wait_queue.specs.declared.types.Asked.TheVariants.{Now, Waits}
 use Rattle.wait_queue.specs.declared.types.Asker.{Asker}
+use Rattle.wait_queue.specs.declared.types.Piece.{Piece}
+use Rattle.acme_watch.specs.Watching.{WatchState, read_waits as watch_waits, piece_for as watch_piece}
+use Rattle.acme_watch.specs.declared.types.WatchRead.{WatchRead}
 use Rattle.event_book.specs.BookState.{BookState, is_living, read_waits, piece_for}
-use Rattle.plumb_ports.specs.PortsState.{PortsState}
 use Rattle.plumb_ports.specs.PortsState.{read_waits as port_waits, piece_for as port_piece}
 use Rattle.core_fids.specs.Refusals.{refusal_text}
 use Rattle.core_fids.specs.declared.effect.Answer.{Answer}
-use Rattle.core_fids.specs.declared.effect.Answer.TheVariants.{Says, Reads, ReadsPort}
+use Rattle.core_fids.specs.declared.effect.Answer.TheVariants.{Says, Reads, ReadsPort, ReadsWatch}
 use Rattle.core_fids.specs.declared.refusal.Refusal.{Refusal}
 use Rattle.core_fids.specs.declared.refusal.Refusal.TheVariants as refusal
 use Rattle.core_events.specs.Asking.{said_to, reads_are_full}
 use Rattle.core_events.specs.PortAsking.{said_unless, read_refusal}
+use Rattle.core_watch.specs.Asking.{read_refusal as watch_refusal}
 use Rattle.core_intents.specs.Intents.{is_refusal, or_refused, reaction_at, server_at}
 use Rattle.core_parts.specs.States.{Present}
 use Rattle.acme_core.specs.Run.{present_after}
 use Rattle.core_steps.specs.Stages.{asker_of}
+use Rattle.core_steps.specs.WatchReads.{watch_asked}
 use Rattle.core_laws.specs.Refusals.{item_refusal, opening_refusal, or_later, reaction_refusal, reply_of, scene_refusal}
 use Rattle.core_laws.specs.Refusals.{IsSaidFor, RefusalsFollow}
 use Rattle.core_laws.proofs.Demands.{IsExact, Owns, reaction_sound}
@@ -43,11 +47,11 @@ event_right : (asked : TBody) (t : Tables) (b : BookState) (x : Asker) (living :
 event_right asked t b x true is = said_right asked b x (read_waits b x) (reads_are_full t x.conn) is
 event_right asked t b x false is = refl
 
-unless_right : (asked : TBody) (p : PortsState) (x : Asker) (o : Option Refusal) (waits : Bool) → kind_t asked ≡ 116
-    → IsSaidFor asked o (said_unless o (cond waits Waits (Now (port_piece p x))))
-unless_right asked p x (Some y) waits is = refl
-unless_right asked p x None true is = is
-unless_right asked p x None false is = ap (λ (n : ℕ). n + 1) (sym is)
+unless_right : (asked : TBody) (piece : Piece) (o : Option Refusal) (waits : Bool) → kind_t asked ≡ 116
+    → IsSaidFor asked o (said_unless o (cond waits Waits (Now piece)))
+unless_right asked piece (Some y) waits is = refl
+unless_right asked piece None true is = is
+unless_right asked piece None false is = ap (λ (n : ℕ). n + 1) (sym is)
 
 -- ---- all answers
 
@@ -59,6 +63,7 @@ not_refused : (kind : ℕ) (a : Answer) → Owns kind a → is_refusal a ≡ fal
 not_refused kind (Says body) own = own.1
 not_refused kind (Reads fid opening count) own = refl
 not_refused kind (ReadsPort fid opening count) own = refl
+not_refused kind (ReadsWatch fid opening count) own = refl
 
 gives : (x : Refusal) (a : Answer) → is_refusal a ≡ false → or_refused (Some x) a ≡ Says (r.Error (refusal_text x))
 gives x a other = ap (λ (b : Bool). cond b a (Says (r.Error (refusal_text x)))) other
@@ -74,7 +79,13 @@ own_right s conn tag asked (Reads fid opening count) own =
 own_right s conn tag asked (ReadsPort fid opening count) own =
     let x : Asker = asker_of conn tag opening count in
     let asks : kind_t asked + 1 ≡ 117 = own in
-    unless_right asked s.scene.ports x (read_refusal s.tables s.scene.ports x) (port_waits s.scene.ports x)
+    unless_right asked (port_piece s.scene.ports x) (read_refusal s.tables s.scene.ports x) (port_waits s.scene.ports x)
+    (omega (arith, asks))
+own_right s conn tag asked (ReadsWatch fid opening count) own =
+    let x : WatchRead = watch_asked conn tag opening count in
+    let w : WatchState = s.scene.watch in
+    let asks : kind_t asked + 1 ≡ 117 = own in
+    unless_right asked (watch_piece w x) (watch_refusal s.tables w x) (watch_waits w.log w.jobs x)
     (omega (arith, asks))
 
 -- by the refusals of the reaction, of the item that it names, and of what else it asks of the scene

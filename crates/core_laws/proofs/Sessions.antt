@@ -22,7 +22,7 @@ use Rattle.win_events.specs.declared.item.Origin.TheVariants.{F}
 use Rattle.am_journal.specs.declared.event.Event.{Event}
 use Rattle.am_journal.specs.declared.event.Event.TheVariants as event
 use Rattle.core_fids.specs.declared.effect.Answer.{Answer}
-use Rattle.core_fids.specs.declared.effect.Answer.TheVariants.{Says, Reads, ReadsPort}
+use Rattle.core_fids.specs.declared.effect.Answer.TheVariants.{Says, Reads, ReadsPort, ReadsWatch}
 use Rattle.core_fids.specs.declared.effect.Reaction.{Reaction}
 use Rattle.core_fids.specs.declared.effect.Effect.{Effect}
 use Rattle.core_fids.specs.declared.effect.Effect.TheVariants as effect
@@ -47,6 +47,11 @@ use Rattle.core_fids.specs.Servers.{ServerState}
 use Rattle.core_events.specs.PortAsking.{port_said}
 use Rattle.core_events.specs.PortServing.{ports_served}
 use Rattle.core_steps.specs.PortReads.{port_read_in, asked_tables}
+use Rattle.core_steps.specs.WatchReads.{watch_asked, watch_read_in, followed_tables}
+use Rattle.acme_watch.specs.Watching.{WatchState}
+use Rattle.core_fids.specs.declared.effect.WatchOpening.{WatchOpening}
+use Rattle.core_watch.specs.Asking.{watch_said}
+use Rattle.core_watch.specs.Serving.{watch_served}
 use Rattle.win_events.specs.declared.item.Origin.{Origin}
 use Rattle.core_intents.specs.Doings.{message_doing, doing_of}
 use Rattle.core_parts.specs.Doing.{Doing}
@@ -58,7 +63,7 @@ use Rattle.core_steps.specs.Stages.{asker_of, answer_tables, acted, said}
 use Rattle.core_parts.specs.States.{Present, State, present, next_entry, start_of}
 use Rattle.core_laws.specs.Laws.{FlushesAreAnswered}
 use Rattle.core_laws.specs.Saying.{flushed}
-use Rattle.core_laws.proofs.Answering.{message_reads, message_reads_port}
+use Rattle.core_laws.proofs.Answering.{is_reads, message_reads}
 use Rattle.core_laws.proofs.Flushes.{flush_or}
 use Rattle.core_laws.proofs.Wells.{done_sessions, done_waiting, cancelled_sessions, cancelled_waiting, waits_sessions}
 use Rattle.core_laws.proofs.Wells.{waits_waiting}
@@ -169,6 +174,7 @@ in_answered t b conn tag (Some (Says body)) own h = h
 in_answered t b conn tag (Some (Reads fid opening count)) own h = in_waits t
     (read_said t b (asker_of conn tag opening count)) conn tag fid (own fid opening count refl) h
 in_answered t b conn tag (Some (ReadsPort fid opening count)) own h = h
+in_answered t b conn tag (Some (ReadsWatch fid opening count)) own h = h
 
 in_asked : (t : Tables) (p : PortsState) (conn tag : ℕ) (a : Option Answer)
     → ((fid opening count : ℕ) → a ≡ Some (ReadsPort fid opening count) → HasSession t conn) → AreInSession t
@@ -178,6 +184,17 @@ in_asked t p conn tag (Some (Says body)) own h = h
 in_asked t p conn tag (Some (Reads fid opening count)) own h = h
 in_asked t p conn tag (Some (ReadsPort fid opening count)) own h = in_waits t
     (port_said t p (asker_of conn tag opening count)) conn tag fid (own fid opening count refl) h
+in_asked t p conn tag (Some (ReadsWatch fid opening count)) own h = h
+
+in_followed : (t : Tables) (w : WatchState) (conn tag : ℕ) (a : Option Answer) (at : ℕ)
+    → ((fid : ℕ) (opening : WatchOpening) (count : ℕ) → a ≡ Some (ReadsWatch fid opening count) → HasSession t conn)
+    → AreInSession t → AreInSession (followed_tables t w (watch_read_in conn tag a at))
+in_followed t w conn tag None at own h = h
+in_followed t w conn tag (Some (Says body)) at own h = h
+in_followed t w conn tag (Some (Reads fid opening count)) at own h = h
+in_followed t w conn tag (Some (ReadsPort fid opening count)) at own h = h
+in_followed t w conn tag (Some (ReadsWatch fid opening count)) at own h = in_waits t
+    (watch_said t w (watch_asked conn tag opening count)) conn tag fid (own fid opening count refl) h
 
 answered_msize : (t : Tables) (b : BookState) (conn tag : ℕ) (a : Option Answer) (c : ℕ)
     → msize_of (answer_tables t b conn tag a) c ≡ msize_of t c
@@ -187,13 +204,19 @@ answered_msize t b conn tag (Some (Reads fid opening count)) c =
     let o : Option RBody = read_said t b (asker_of conn tag opening count) in
     by_sessions t (waits_unless o t conn tag fid) (waits_sessions o t conn tag fid) c
 answered_msize t b conn tag (Some (ReadsPort fid opening count)) c = refl
+answered_msize t b conn tag (Some (ReadsWatch fid opening count)) c = refl
+
+asked_msize : (t : Tables) (p : PortsState) (conn tag : ℕ) (a : Option Answer) (c : ℕ)
+    → msize_of (asked_tables t p (port_read_in conn tag a)) c ≡ msize_of t c
+asked_msize t p conn tag None c = refl
+asked_msize t p conn tag (Some (Says body)) c = refl
+asked_msize t p conn tag (Some (Reads fid opening count)) c = refl
+asked_msize t p conn tag (Some (ReadsPort fid opening count)) c =
+    let o : Option RBody = port_said t p (asker_of conn tag opening count) in
+    by_sessions t (waits_unless o t conn tag fid) (waits_sessions o t conn tag fid) c
+asked_msize t p conn tag (Some (ReadsWatch fid opening count)) c = refl
 
 -- ---- a read is asked in a session
-
-abbrev is_reads : Answer → Bool
-is_reads (Says body) = false
-is_reads (Reads fid opening count) = true
-is_reads (ReadsPort fid opening count) = true
 
 says_or : (b : Bool) (d e : Reaction) → is_reads d.answer ≡ false → is_reads e.answer ≡ false →
     is_reads (cond b d e).answer ≡ false
@@ -248,7 +271,9 @@ in_message s conn msg h =
     let put : Tables = grown_with s.tables conn d.effect in
     let read : Tables = answer_tables put s.scene.book conn msg.tag d.answer in
     let asked : Tables = asked_tables read (acted p d).ports (port_read_in conn msg.tag d.answer) in
-    let left : Tables = ended_with asked conn d.effect in
+    let followed : Tables = followed_tables asked (acted p d).watch
+    (watch_read_in conn msg.tag d.answer (next_entry p)) in
+    let left : Tables = ended_with followed conn d.effect in
     let xs : List Response = said p (kind.Asks conn msg.tag) d in
     let session : (a : Answer) → done.answer ≡ a → is_reads a ≡ true → HasSession put conn = λ a same reads.
     ap is_there (grown_msize s.tables conn d.effect conn)
@@ -256,13 +281,18 @@ in_message s conn msg h =
     in
     in_cancelled (ended left xs) conn d.events
     (in_ended left xs
-    (in_freed asked conn d.effect
+    (in_freed followed conn d.effect
+    (in_followed asked (acted p d).watch conn msg.tag d.answer (next_entry p)
+    (λ fid opening count is. ap is_there (asked_msize read (acted p d).ports conn msg.tag d.answer conn
+    ∙ answered_msize put s.scene.book conn msg.tag d.answer conn)
+    ∙ session (ReadsWatch fid opening count) (message_reads p done o (ReadsWatch fid opening count) refl is) refl)
     (in_asked read (acted p d).ports conn msg.tag d.answer
     (λ fid opening count is. ap is_there (answered_msize put s.scene.book conn msg.tag d.answer conn)
-    ∙ session (ReadsPort fid opening count) (message_reads_port p done o fid opening count is) refl)
+    ∙ session (ReadsPort fid opening count) (message_reads p done o (ReadsPort fid opening count) refl is) refl)
     (in_answered put s.scene.book conn msg.tag d.answer
-    (λ fid opening count is. session (Reads fid opening count) (message_reads p done o fid opening count is) refl)
-    (in_grown s.tables conn d.effect h)))))
+    (λ fid opening count is. session (Reads fid opening count)
+    (message_reads p done o (Reads fid opening count) refl is) refl)
+    (in_grown s.tables conn d.effect h))))))
 
 in_step : (s : State) (e : Event) → AreInSession s.tables → AreInSession (step s e).tables
 unfolding step
@@ -311,8 +341,9 @@ any_session t conn tag (w ∷ ws) all h =
 
 -- nothing is served, since no read that waits can be answered
 flush_says : (s : Present) (conn tag oldtag : ℕ) → as_asked s.tables (served_all (next_entry s)
-    (put_living [] s.scene.book s.scene.items) ∷ ports_served s.scene.ports ∷ []) ≡ [] → said s (kind.Asks conn tag)
-    (message_doing s (flush_reaction oldtag) F) ≡ flushed conn tag ∷ []
+    (put_living [] s.scene.book s.scene.items) ∷ ports_served s.scene.ports
+    ∷ watch_served (next_entry s) s.scene.watch ∷ []) ≡ []
+    → said s (kind.Asks conn tag) (message_doing s (flush_reaction oldtag) F) ≡ flushed conn tag ∷ []
 unfolding task_deeds task_refusal
 flush_says s conn tag oldtag none = ap (λ (xs : List Response). flushed conn tag ∷ xs) none
 

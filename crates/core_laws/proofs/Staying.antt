@@ -3,7 +3,7 @@
 use Rattle.std.proofs.Common.{◌≡◌, ℕ, zero, suc, Bool, true, false, not, cond, eqb, ◌&&◌, ◌||◌, List, [], ◌∷◌, ◌++◌}
 use Rattle.std.proofs.Common.{length, fold, nat_lt, Option, Some, None, option_map, refl, sym, ap, subst, ◌∙◌}
 use Rattle.std.specs.List.{filter, list_any, list_all}
-use Rattle.std.proofs.lemmas.Bool.{eqb-true, and_parts, or_parts, both_ways, false_from_ne_true}
+use Rattle.std.proofs.lemmas.Bool.{eqb-true, and_parts, both_ways, false_from_ne_true}
 use Rattle.std.proofs.lemmas.List.Folds.{list_any-append}
 use Rattle.fid_table.specs.declared.types.Fid.{Fid}
 use Rattle.fid_table.specs.declared.session.Waiting.{Waiting}
@@ -36,10 +36,10 @@ use Rattle.core_events.proofs.Turns.{book_none_more}
 use Rattle.core_events.specs.PortClosing.{without_opening as without_port, without_fid as without_port_fid}
 use Rattle.core_events.specs.PortServing.{then_served as then_port, served_most as served_ports, after_serving_most}
 use Rattle.core_events.proofs.PortTurns.{after_none_more}
-use Rattle.core_laws.specs.Waits.{AreApart}
+use Rattle.core_laws.specs.Waits.{AreApart, told}
 use Rattle.core_laws.proofs.Books.{IsBook, book_without}
-use Rattle.core_laws.proofs.Lists.{without, without_both, without_none, IsIn, any_in}
-use Rattle.core_laws.proofs.Zips.{AsksApart, same_key, key_parts, found, first_without, asks_without, any_apart}
+use Rattle.core_laws.proofs.Lists.{without, without_both, without_none, IsIn, found}
+use Rattle.core_laws.proofs.Zips.{AsksApart, asks_without, not_that, none_first, first_without, any_apart}
 
 -- ---- what is said to a tag of a connection
 
@@ -103,6 +103,7 @@ opened_reads s (events.Opens w) =
       | false ↦ refl
     ]
 opened_reads s (events.Joins port) = refl
+opened_reads s (events.Watches file) = refl
 opened_reads s (events.Cancels tag) = refl
 
 put_same : (s : BookState) (i : WindowItem) → IsSame s (put_one s i)
@@ -136,33 +137,16 @@ written_same at s (Some i) =
 
 -- ---- reads that are answered
 
-none_found : (p q : Asker → Bool) (rs : List Asker) → list_any p rs ≡ false → list_any p (without_first q rs) ≡ false
-none_found p q [] h = refl
-none_found p q (r ∷ rs) h =
-    let parts : (p r ≡ false) × (list_any p rs ≡ false) = or_parts (p r) (list_any p rs) h in
-    elim (q r) as (λ b. list_any p (cond b rs (r ∷ without_first q rs)) ≡ false) [
-      | true ↦ parts.1
-      | false ↦ ap (λ (b : Bool). b || list_any p (without_first q rs)) parts.0 ∙ none_found p q rs parts.1
-    ]
-
-not_that : (c g : ℕ) (rs : List Asker) (r : Asker) → list_any (is_read c g) rs ≡ false → IsIn rs r
-    → (eqb c r.conn && eqb g r.tag) ≡ false
-not_that c g rs r none i =
-    false_from_ne_true (eqb c r.conn && eqb g r.tag) (λ t. let parts : (c ≡ r.conn)
-    × (g ≡ r.tag) = key_parts c g r.conn r.tag t in
-    both_ways (list_any (is_read c g) rs) none (any_in (is_read c g) rs r i
-    (same_key r.conn r.tag c g (sym parts.0) (sym parts.1))))
-
 served_none : (s : BookState) → next_of s ≡ None → served_of s ≡ None
 served_none s h = ap (λ (o : Option Asker). option_map {U = Asker × Piece} (λ r. (r, piece_for s r)) o) h
 
-pub served_without : (n at : ℕ) (s : BookState) → AsksApart s.reads
+pub served_without : (n at : ℕ) (s : BookState) → AsksApart told s.reads
     → (book_served_most n at s).reads ≡ without (λ r. heard (served_most n at s) r.conn r.tag) s.reads
 unfolding book_served_most served_most
 served_without zero at s apart = sym (without_none (λ (r : Asker). false) s.reads (λ k d l. refl))
 served_without (suc n) at s apart = by (next_of s) refl (served_without n at (after_serve s at))
   where
-    by : (o : Option Asker) → next_of s ≡ o → (AsksApart (after_next o s at).reads
+    by : (o : Option Asker) → next_of s ≡ o → (AsksApart told (after_next o s at).reads
         → (book_served_most n at (after_next o s at)).reads ≡ without
         (λ r. heard (served_most n at (after_next o s at)) r.conn r.tag) (after_next o s at).reads)
         → (book_served_most n at (after_next o s at)).reads ≡ without
@@ -172,9 +156,9 @@ served_without (suc n) at s apart = by (next_of s) refl (served_without n at (af
         ∙ sym (without_none (λ (r : Asker). false) s.reads (λ k d l. refl))
     by (Some r) e later =
         let left : List Asker = without_first (is_ready s.files s.owners) s.reads in
-        let one : left ≡ without (is_read r.conn r.tag) s.reads = first_without (is_ready s.files s.owners) s.reads r e
-        apart in
-        later (subst AsksApart (sym one) (asks_without (is_read r.conn r.tag) s.reads apart))
+        let one : left ≡ without (is_read r.conn r.tag) s.reads = first_without told without_first
+        (λ p. refl) (λ p x xs. refl) (is_ready s.files s.owners) s.reads r e apart in
+        later (subst (AsksApart told) (sym one) (asks_without told (is_read r.conn r.tag) s.reads apart))
         ∙ ap (without (λ (x : Asker). heard (served_most n at (after_next (Some r) s at)) x.conn x.tag)) one
         ∙ without_both (λ (x : Asker). heard (served_most n at (after_next (Some r) s at)) x.conn x.tag)
         (is_read r.conn r.tag) s.reads
@@ -202,19 +186,20 @@ served_silent (suc n) at s c g none = by (next_of s) refl (served_silent n at (a
     by None e later = refl
     by (Some r) e later =
         ap (λ (b : Bool). b || heard (served_most n at (after_next (Some r) s at)) c g)
-        (not_that c g s.reads r none (found (is_ready s.files s.owners) s.reads r e))
-        ∙ later (none_found (is_read c g) (is_ready s.files s.owners) s.reads none)
+        (not_that told c g s.reads r none (found (is_ready s.files s.owners) s.reads r e))
+        ∙ later (none_first told without_first (λ p. refl) (λ p x xs. refl) (is_read c g) (is_ready s.files s.owners)
+        s.reads none)
 
 port_none : (s : PortsState) → next_port s ≡ None → served_port s ≡ None
 port_none s h = ap (λ (o : Option Asker). option_map {U = Asker × Piece} (λ r. (r, port_piece s r)) o) h
 
-pub ports_without : (n : ℕ) (s : PortsState) → AsksApart s.reads →
+pub ports_without : (n : ℕ) (s : PortsState) → AsksApart told s.reads →
     (after_serving_most n s).reads ≡ without (λ r. heard (served_ports n s) r.conn r.tag) s.reads
 unfolding after_serving_most served_ports
 ports_without zero s apart = sym (without_none (λ (r : Asker). false) s.reads (λ k d l. refl))
 ports_without (suc n) s apart = by (next_port s) refl (ports_without n (after_port_serve s))
   where
-    by : (o : Option Asker) → next_port s ≡ o → (AsksApart (after_next_port o s).reads
+    by : (o : Option Asker) → next_port s ≡ o → (AsksApart told (after_next_port o s).reads
         → (after_serving_most n (after_next_port o s)).reads ≡ without
         (λ r. heard (served_ports n (after_next_port o s)) r.conn r.tag) (after_next_port o s).reads)
         → (after_serving_most n (after_next_port o s)).reads ≡ without
@@ -224,9 +209,9 @@ ports_without (suc n) s apart = by (next_port s) refl (ports_without n (after_po
         ∙ sym (without_none (λ (r : Asker). false) s.reads (λ k d l. refl))
     by (Some r) e later =
         let left : List Asker = without_first (port_ready s.openings) s.reads in
-        let one : left ≡ without (is_read r.conn r.tag) s.reads = first_without (port_ready s.openings) s.reads r e
-        apart in
-        later (subst AsksApart (sym one) (asks_without (is_read r.conn r.tag) s.reads apart))
+        let one : left ≡ without (is_read r.conn r.tag) s.reads = first_without told without_first
+        (λ p. refl) (λ p x xs. refl) (port_ready s.openings) s.reads r e apart in
+        later (subst (AsksApart told) (sym one) (asks_without told (is_read r.conn r.tag) s.reads apart))
         ∙ ap (without (λ (x : Asker). heard (served_ports n (after_next_port (Some r) s)) x.conn x.tag)) one
         ∙ without_both (λ (x : Asker). heard (served_ports n (after_next_port (Some r) s)) x.conn x.tag)
         (is_read r.conn r.tag) s.reads
@@ -253,8 +238,9 @@ ports_silent (suc n) s c g none = by (next_port s) refl (ports_silent n (after_p
     by None e later = refl
     by (Some r) e later =
         ap (λ (b : Bool). b || heard (served_ports n (after_next_port (Some r) s)) c g)
-        (not_that c g s.reads r none (found (port_ready s.openings) s.reads r e))
-        ∙ later (none_found (is_read c g) (port_ready s.openings) s.reads none)
+        (not_that told c g s.reads r none (found (port_ready s.openings) s.reads r e))
+        ∙ later (none_first told without_first (λ p. refl) (λ p x xs. refl) (is_read c g) (port_ready s.openings)
+        s.reads none)
 
 -- ---- openings that close
 

@@ -1,7 +1,7 @@
 -- After each journal of enabled events each fid is one of a connection that lives, and so is each read that waits;
 -- those of event files are on openings of such fids.
 use Rattle.std.proofs.Common.{◌≡◌, ◌≢◌, ◌⊎◌, inl, inr, ℕ, zero, suc, ◌+◌, Bool, true, false, not, cond, List, [], ◌∷◌}
-use Rattle.std.proofs.Common.{length, slice_index_or, slice_set, Option, Some, None, All, refl, sym, ap, subst}
+use Rattle.std.proofs.Common.{slice_index_or, slice_set, Option, Some, None, All, refl, sym, ap, subst}
 use Rattle.std.proofs.Common.{◌∙◌, arith}
 use Rattle.std.specs.List.{filter}
 use Rattle.std.proofs.lemmas.Bool.{eqb-false, not-true}
@@ -27,7 +27,7 @@ use Rattle.am_journal.specs.declared.event.Event.{Event}
 use Rattle.am_journal.specs.declared.event.Event.TheVariants as event
 use Rattle.am_journal.specs.declared.event.Why.{Why}
 use Rattle.core_fids.specs.declared.effect.Answer.{Answer}
-use Rattle.core_fids.specs.declared.effect.Answer.TheVariants.{Says, Reads, ReadsPort}
+use Rattle.core_fids.specs.declared.effect.Answer.TheVariants.{Says, Reads, ReadsPort, ReadsWatch}
 use Rattle.core_fids.specs.declared.effect.Reaction.{Reaction}
 use Rattle.core_fids.specs.declared.effect.Effect.{Effect}
 use Rattle.core_fids.specs.declared.effect.Effect.TheVariants as effect
@@ -52,27 +52,32 @@ use Rattle.core_intents.specs.Intents.{reaction_at, server_at}
 use Rattle.core_intents.specs.Origins.{message_origin}
 use Rattle.core_intents.specs.Enabled.{first_why, live_refusal}
 use Rattle.acme_core.specs.Run.{step, run, AreEnabled}
-use Rattle.core_steps.specs.Stages.{asker_of, answer_book, answer_tables, acted, read_tables, grown_tables, read_book}
+use Rattle.core_steps.specs.Stages.{asker_of, answer_book, answer_tables, acted, read_tables, port_tables, grown_tables}
+use Rattle.core_steps.specs.Stages.{read_book}
 use Rattle.core_steps.specs.Stages.{put_book, grown_book, tables_after, book_after, said}
 use Rattle.core_closing.specs.Closing.{left_book, ended_tables}
 use Rattle.core_parts.specs.States.{Present, State, present, next_entry, start_of}
 use Rattle.acme_core.proofs.Goes.{run-push}
 use Rattle.core_steps.proofs.Joins.{elsewhere}
+use Rattle.core_laws.proofs.FileKinds.{of_event}
 use Rattle.core_laws.proofs.Fids.{AllFids, no_fids, fids_weaker, fids_at, IsHeld, fids_join, fids_put, fids_take}
 use Rattle.core_laws.proofs.Fids.{fids_version, fids_same, held_join, held_put, held_take, held_version, held_same}
 use Rattle.plumb_ports.specs.PortsState.{PortsState}
-use Rattle.core_fids.specs.Fids.{at_event, event_opening, port_opening}
+use Rattle.core_fids.specs.Fids.{at_event, event_opening}
 use Rattle.core_fids.specs.Plumbers.{plumber_of}
 use Rattle.core_events.specs.PortAsking.{port_said}
-use Rattle.core_windows.specs.Windows.{world_of}
-use Rattle.core_intents.specs.Intents.{held_or, with_held}
+use Rattle.core_windows.specs.Windows.{world_with}
+use Rattle.core_intents.specs.Intents.{held_or, with_held, opened_at}
 use Rattle.core_steps.specs.PortReads.{port_read_in, asked_tables}
-use Rattle.core_laws.proofs.Answering.{message_reads, message_reads_port, held_of}
+use Rattle.core_steps.specs.WatchReads.{watch_asked, watch_read_in, followed_tables}
+use Rattle.acme_watch.specs.Watching.{WatchState}
+use Rattle.core_watch.specs.Asking.{watch_said}
+use Rattle.core_laws.proofs.Answering.{message_reads, held_of}
 use Rattle.core_laws.proofs.Books.{IsBook, IsApart, book_weaker, book_later, book_opened, book_put_living, book_put_all}
 use Rattle.core_laws.proofs.Books.{book_ask, book_serve_all, book_without, book_without_fids, book_cancelled}
 use Rattle.core_laws.proofs.Books.{book_written, book_closed, without_none, fids_none}
-use Rattle.core_laws.proofs.Reactions.{IsModed, IsStill, PutsSane, IsNew, HasOpening, ReadsSane, IsSane, of_event}
-use Rattle.core_laws.proofs.Reactions.{keeps, reaction_sane}
+use Rattle.core_laws.proofs.Reactions.{IsModed, IsStill, PutsSane, IsNew, HasOpening, ReadsSane, IsSane, keeps}
+use Rattle.core_laws.proofs.Reactions.{reaction_sane}
 use Rattle.am_journal.specs.declared.event.Journal.{Journal}
 use Rattle.am_journal.specs.Journal.{longer, journal_in}
 use Rattle.core_laws.specs.Fronts.{followed}
@@ -141,6 +146,7 @@ done_waiting P t (x ∷ xs) h =
 pub cancelled_sessions : (t : Tables) (conn : ℕ) (e : EventChange) → (without_cancelled t conn e).sessions ≡ t.sessions
 cancelled_sessions t conn events.Nothing = refl
 cancelled_sessions t conn (events.Opens w) = refl
+cancelled_sessions t conn (events.Watches file) = refl
 cancelled_sessions t conn (events.Cancels tag) = refl
 cancelled_sessions t conn (events.Joins port) = refl
 
@@ -149,6 +155,7 @@ pub cancelled_waiting : (P : Waiting → Type 0) (t : Tables) (conn : ℕ) (e : 
 cancelled_waiting P t conn events.Nothing h = h
 cancelled_waiting P t conn (events.Opens w) h = h
 cancelled_waiting P t conn (events.Joins port) h = h
+cancelled_waiting P t conn (events.Watches file) h = h
 cancelled_waiting P t conn (events.Cancels tag) h = All-filter (λ w. not (is_waiting conn tag w)) P t.waiting h
 
 -- the same with reads that were answered
@@ -220,10 +227,16 @@ unfoldable pub AsksSane : Tables → ℕ → ℕ → Option Answer → Type 0
 AsksSane t conn tag a = (fid opening count : ℕ) → a ≡ Some (Reads fid opening count)
     → IsHeld event_opening t (asker_of conn tag opening count)
 
--- and so is a read of a port
-unfoldable pub AsksPortSane : Tables → ℕ → ℕ → Option Answer → Type 0
-AsksPortSane t conn tag a = (fid opening count : ℕ) → a ≡ Some (ReadsPort fid opening count)
-    → IsHeld port_opening t (asker_of conn tag opening count)
+-- the same with a read that waits where nothing is said to it
+well_waits : (cs : List Connection) (t : Tables) (at : ℕ) (b : BookState) (o : Option RBody) (conn tag fid : ℕ)
+    → Lives cs conn → AreWell cs t at b → AreWell cs (waits_unless o t conn tag fid) at b
+well_waits cs t at b o conn tag fid live well = record {
+  fids = fids_same (IsOfLive cs) t (waits_unless o t conn tag fid) (waits_sessions o t conn tag fid) well.fids;
+  waiting = waits_waiting (WaitsOnLive cs) o t conn tag fid live well.waiting;
+  book = book_weaker (IsHeld event_opening t) (IsHeld event_opening (waits_unless o t conn tag fid)) at b
+      (λ x h. held_same event_opening t (waits_unless o t conn tag fid) x (waits_sessions o t conn tag fid) h)
+      well.book;
+}
 
 well_answered : (cs : List Connection) (t : Tables) (at : ℕ) (b : BookState) (conn tag : ℕ) (a : Option Answer)
     → Lives cs conn → AsksSane t conn tag a → AreWell cs t at b
@@ -233,18 +246,16 @@ well_answered cs t at b conn tag None live own well = well
 well_answered cs t at b conn tag (Some (Says body)) live own well = well
 well_answered cs t at b conn tag (Some (Reads fid opening count)) live own well =
     let r : Asker = asker_of conn tag opening count in
-    let o : Option RBody = read_said t b r in
-    record {
-      fids = fids_same (IsOfLive cs) t (waits_unless o t conn tag fid) (waits_sessions o t conn tag fid) well.fids;
-      waiting = waits_waiting (WaitsOnLive cs) o t conn tag fid live well.waiting;
-      book = book_weaker (IsHeld event_opening t) (IsHeld event_opening (waits_unless o t conn tag fid)) at
-          (book_read t b r at) (λ x h. held_same event_opening t (waits_unless o t conn tag fid) x
-          (waits_sessions o t conn tag fid) h)
-          (reading_book (IsHeld event_opening t) at t b r (own fid opening count refl) well.book);
-    }
+    let read : AreWell cs t at (book_read t b r at) = record {
+      fids = well.fids;
+      waiting = well.waiting;
+      book = reading_book (IsHeld event_opening t) at t b r (own fid opening count refl) well.book;
+    } in
+    well_waits cs t at (book_read t b r at) (read_said t b r) conn tag fid live read
 well_answered cs t at b conn tag (Some (ReadsPort fid opening count)) live own well = well
+well_answered cs t at b conn tag (Some (ReadsWatch fid opening count)) live own well = well
 
--- the same with the read of a port, where it waits
+-- the same with the read of a port
 well_asked : (cs : List Connection) (t : Tables) (at : ℕ) (b : BookState) (p : PortsState) (conn tag : ℕ)
     (a : Option Answer) → Lives cs conn → AreWell cs t at b
     → AreWell cs (asked_tables t p (port_read_in conn tag a)) at b
@@ -252,14 +263,19 @@ well_asked cs t at b p conn tag None live well = well
 well_asked cs t at b p conn tag (Some (Says body)) live well = well
 well_asked cs t at b p conn tag (Some (Reads fid opening count)) live well = well
 well_asked cs t at b p conn tag (Some (ReadsPort fid opening count)) live well =
-    let o : Option RBody = port_said t p (asker_of conn tag opening count) in
-    record {
-      fids = fids_same (IsOfLive cs) t (waits_unless o t conn tag fid) (waits_sessions o t conn tag fid) well.fids;
-      waiting = waits_waiting (WaitsOnLive cs) o t conn tag fid live well.waiting;
-      book = book_weaker (IsHeld event_opening t) (IsHeld event_opening (waits_unless o t conn tag fid)) at b
-          (λ x h. held_same event_opening t (waits_unless o t conn tag fid) x (waits_sessions o t conn tag fid) h)
-          well.book;
-    }
+    well_waits cs t at b (port_said t p (asker_of conn tag opening count)) conn tag fid live well
+well_asked cs t at b p conn tag (Some (ReadsWatch fid opening count)) live well = well
+
+-- and with that of `log` or `jobs`
+well_followed : (cs : List Connection) (t : Tables) (at : ℕ) (b : BookState) (w : WatchState) (conn tag : ℕ)
+    (a : Option Answer) → Lives cs conn → AreWell cs t at b
+    → AreWell cs (followed_tables t w (watch_read_in conn tag a at)) at b
+well_followed cs t at b w conn tag None live well = well
+well_followed cs t at b w conn tag (Some (Says body)) live well = well
+well_followed cs t at b w conn tag (Some (Reads fid opening count)) live well = well
+well_followed cs t at b w conn tag (Some (ReadsPort fid opening count)) live well = well
+well_followed cs t at b w conn tag (Some (ReadsWatch fid opening count)) live well =
+    well_waits cs t at b (watch_said t w (watch_asked conn tag opening count)) conn tag fid live well
 
 -- an opening joins, items come, and reads are served
 pub items_book : (P : Asker → Type 0) (s : Present) (k : Kind) (d : Doing) → IsBook P (next_entry s) (read_book s k d)
@@ -394,8 +410,8 @@ begun cs kind.Acts = cs
 
 -- what a message of this state opens
 abbrev pub opens_in : Present → EventChange → Fid → Type 0
-opens_in s e value = IsNew (world_of s.scene.windows) (plumber_of s.scene.rules s.scene.ports)
-    (length s.scene.book.owners) e value
+opens_in s e value = IsNew (world_with s.scene.watched s.scene.windows) (plumber_of s.scene.rules s.scene.ports)
+    (opened_at s) e value
 
 -- the connection of a message lives, and the message puts and reads what it may
 unfoldable pub IsOwn : Present → Kind → Doing → Type 0
@@ -403,7 +419,6 @@ IsOwn s (kind.Dials conn) d = Unit {0}
 IsOwn s (kind.Asks conn tag) d =
     Lives s.connections conn × PutsSane (opens_in s d.events) s.tables conn d.effect
     × AsksSane (grown_with s.tables conn d.effect) conn tag d.answer
-    × AsksPortSane (grown_with s.tables conn d.effect) conn tag d.answer
 IsOwn s (kind.Ends conn why) d = Unit {0}
 IsOwn s (kind.Takes conn) d = Unit {0}
 IsOwn s kind.Acts d = Unit {0}
@@ -415,12 +430,14 @@ pub well_read : (s : Present) (k : Kind) (d : Doing) → IsOwn s k d
 unfolding begun IsOwn
 well_read s (kind.Dials conn) d own well = well_dialed s.connections s.tables (next_entry s) s.scene.book conn well
 well_read s (kind.Asks conn tag) d own well =
-    well_asked s.connections (read_tables s (kind.Asks conn tag) d) (next_entry s) (read_book s (kind.Asks conn tag) d)
+    well_followed s.connections (port_tables s (kind.Asks conn tag) d) (next_entry s)
+    (read_book s (kind.Asks conn tag) d) (acted s d).watch conn tag d.answer own.0
+    (well_asked s.connections (read_tables s (kind.Asks conn tag) d) (next_entry s) (read_book s (kind.Asks conn tag) d)
     (acted s d).ports conn tag d.answer own.0
     (well_answered s.connections (grown_with s.tables conn d.effect) (next_entry s) s.scene.book conn tag d.answer own.0
     own.2
     (well_grown (opens_in s d.events) s.connections s.tables (next_entry s) s.scene.book conn d.effect own.0 own.1
-    well))
+    well)))
 well_read s (kind.Ends conn why) d own well = well
 well_read s (kind.Takes conn) d own well = well
 well_read s kind.Acts d own well = well
@@ -493,22 +510,10 @@ own_held : (s : Present) (t : Tables) (conn tag : ℕ) (d : Reaction) (o : Origi
 unfolding AsksSane
 own_held s t conn tag d o sane fid opening count is =
     let a : Answer = d.answer in
-    let same : a ≡ Reads fid opening count = message_reads s d o fid opening count is in
+    let same : a ≡ Reads fid opening count = message_reads s d o (Reads fid opening count) refl is in
     let reads : ReadsSane t conn d (Reads fid opening count) = subst (ReadsSane t conn d) same sane in
     let has : HasOpening event_opening t conn fid opening = reads.1 in
     subst (λ (x : Effect). IsHeld event_opening (grown_with t conn (with_held x (held_of s d o)))
-    (asker_of conn tag opening count)) (sym reads.0)
-    (record { number = fid; fid = has.fid; is = has.is; opens = has.opens })
-
-own_port : (s : Present) (t : Tables) (conn tag : ℕ) (d : Reaction) (o : Origin) → ReadsSane t conn d d.answer
-    → AsksPortSane (grown_with t conn (message_doing s d o).effect) conn tag (message_doing s d o).answer
-unfolding AsksPortSane
-own_port s t conn tag d o sane fid opening count is =
-    let a : Answer = d.answer in
-    let same : a ≡ ReadsPort fid opening count = message_reads_port s d o fid opening count is in
-    let reads : ReadsSane t conn d (ReadsPort fid opening count) = subst (ReadsSane t conn d) same sane in
-    let has : HasOpening port_opening t conn fid opening = reads.1 in
-    subst (λ (x : Effect). IsHeld port_opening (grown_with t conn (with_held x (held_of s d o)))
     (asker_of conn tag opening count)) (sym reads.0)
     (record { number = fid; fid = has.fid; is = has.is; opens = has.opens })
 
@@ -531,7 +536,6 @@ own_message s conn msg allowed well =
       message_lives p conn msg allowed,
       held_sane p done.events s.tables conn done.effect (held_of p done o) sane.0,
       own_held p s.tables conn msg.tag done o sane.1,
-      own_port p s.tables conn msg.tag done o sane.1,
     )
 
 pub own : (s : State) (e : Event) → enabled_at (present s) e ≡ None → IsWell s

@@ -29,7 +29,7 @@ use Rattle.event_book.specs.declared.finding.BackFault.{BackFault}
 use Rattle.event_book.proofs.FidLemmas.{found_fits}
 use Rattle.am_journal.specs.declared.event.Event.{Event}
 use Rattle.am_journal.specs.declared.event.Event.TheVariants as event
-use Rattle.core_windows.specs.Windows.{Window, window_at, world_of}
+use Rattle.core_windows.specs.Windows.{Window, window_at, world_with}
 use Rattle.core_fids.specs.Plumbers.{plumber_of}
 use Rattle.core_fids.specs.declared.effect.Answer.TheVariants.{Says}
 use Rattle.core_fids.specs.declared.effect.Demand.{Demand}
@@ -134,14 +134,14 @@ write_msg tag fid offset bytes = record { tag = tag; body = t.Write fid offset b
 write_shape : (s : Present) (conn tag fid offset w : ℕ) (bytes : List ℕ) (f : Fid) → fid_of s.tables conn fid ≡ Some f
     → f.node ≡ File w EventsFile
     → reaction_at s conn (write_msg tag fid offset bytes)
-    ≡ shape w bytes (not (is_there (msize_of s.tables conn))) (use_refusal (world_of s.scene.windows)
+    ≡ shape w bytes (not (is_there (msize_of s.tables conn))) (use_refusal (world_with s.scene.watched s.scene.windows)
     (plumber_of s.scene.rules s.scene.ports).names f is_for_writing) (window_at s.scene.windows w)
 write_shape s conn tag fid offset w bytes f there node =
     let missing : Bool = not (is_there (msize_of s.tables conn)) in
     ap (λ (o : Option Fid). cond missing (refusal_reaction refusal.VersionFirst)
     (reaction_or_refusal (write_fid (server_at s conn) (record { number = fid; bytes = bytes }) o))) there
     ∙ ap (λ (n : Node). cond missing (refusal_reaction refusal.VersionFirst)
-    (reaction_or_refusal (or_reads (use_refusal (world_of s.scene.windows)
+    (reaction_or_refusal (or_reads (use_refusal (world_with s.scene.watched s.scene.windows)
     (plumber_of s.scene.rules s.scene.ports).names f is_for_writing)
     (write_content s.scene.windows (record { number = fid; bytes = bytes }) f (content_of n))))) node
 
@@ -163,6 +163,7 @@ back_doing s bytes x = resolved s (record {
   origin = F;
   answer = Some (or_refused (refusal_if_any x) (Says (r.Write (length bytes))));
   back = item_if_any x;
+  answers = None;
 })
 
 -- and there is such an item
@@ -191,8 +192,8 @@ acted_on before behind conn tag fid offset count w bytes f there node answered =
     let e : Event = write_of conn tag fid offset bytes in
     let d : Reaction = reaction_at s conn (write_msg tag fid offset bytes) in
     let missing : Bool = not (is_there (msize_of s.tables conn)) in
-    let o : Option Refusal = use_refusal (world_of s.scene.windows) (plumber_of s.scene.rules s.scene.ports).names f
-    is_for_writing in
+    let o : Option Refusal = use_refusal (world_with s.scene.watched s.scene.windows)
+    (plumber_of s.scene.rules s.scene.ports).names f is_for_writing in
     let x : Reaction = shape w bytes missing o (window_at s.scene.windows w) in
     let shaped : doing_of s e ≡ message_doing s x F =
     ap (λ (y : Reaction). message_doing s y (message_origin s.tables conn (t.Write fid offset bytes)))
@@ -241,6 +242,7 @@ not_plain book b demand.ClearsRules plain is = cc
 not_plain book b (demand.AddsRules text) plain is = cc
 not_plain book b (demand.AddsRest text) plain is = cc
 not_plain book b (demand.Sends text) plain is = cc
+not_plain book b (demand.Answers opening text) plain is = cc
 
 -- the item that is found is answered for
 found_answer : (s : Present) (origin : Origin) (count : ℕ) (x : Result BackItem Refusal) (b : BackItem) → x ≡ Ok b

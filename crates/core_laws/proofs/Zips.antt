@@ -1,6 +1,6 @@
--- The reads of a list of the sessions, and those of the event files or ports.
+-- The reads of a list of the sessions, and those of the event files, of the ports, or of `log` and `jobs`.
 use Rattle.std.proofs.Common.{◌≡◌, ℕ, inl, inr, Bool, true, false, not, cond, eqb, ◌&&◌, ◌||◌, List, [], ◌∷◌, ◌++◌, map}
-use Rattle.std.proofs.Common.{Option, Some, None, refl, sym, ap, subst, ◌∙◌, arith}
+use Rattle.std.proofs.Common.{Option, Some, None, All, refl, sym, ap, subst, ◌∙◌, arith}
 use Rattle.std.specs.List.{list_any, find}
 use Rattle.std.proofs.lemmas.Bool.{eqb-true, both_ways, and_parts, or_parts, false_from_ne_true}
 use Rattle.std.proofs.lemmas.Bool.Decides.{nat_tests}
@@ -8,9 +8,9 @@ use Rattle.fid_table.specs.declared.types.Fid.{Fid}
 use Rattle.fid_table.specs.declared.session.Waiting.{Waiting}
 use Rattle.fid_table.specs.Tables.{Tables, fid_of, is_waiting}
 use Rattle.wait_queue.specs.declared.types.Asker.{Asker}
-use Rattle.wait_queue.specs.Reads.{is_read, without_first}
-use Rattle.core_laws.specs.Waits.{WaitingRead, told, opening_by, with_read, reads_in, AreApart}
-use Rattle.core_laws.proofs.Lists.{without, IsIn, in_without, any_in, which_any}
+use Rattle.acme_watch.specs.declared.types.WatchRead.{WatchRead}
+use Rattle.core_laws.specs.Waits.{WaitingRead, opening_by, with_read, reads_in, AreApart}
+use Rattle.core_laws.proofs.Lists.{without, IsIn, in_without, any_in, which_any, all_by, all_in, found}
 
 -- ---- keys: a connection and a tag
 
@@ -21,90 +21,105 @@ module _ (K : ℕ → ℕ → Bool) where
   abbrev pub by_asker : Asker → Bool
   by_asker r = K r.conn r.tag
 
-  abbrev pub by_read : WaitingRead → Bool
-  by_read x = K x.conn x.tag
+  abbrev pub by_follower : WatchRead → Bool
+  by_follower r = K r.asker.conn r.asker.tag
 
-  one_read : (o : Option ℕ) (w : Waiting) (b : Bool) (xs : List WaitingRead) → K w.conn w.tag ≡ b
-      → cond (not b) (with_read o w (without by_read xs)) (without by_read xs) ≡ without by_read (with_read o w xs)
-  one_read None w true xs e = refl
-  one_read None w false xs e = refl
-  one_read (Some o) w true xs e = rw e refl
-  one_read (Some o) w false xs e = rw e refl
+  module _ {O : Type 0} where
+    abbrev pub by_read : WaitingRead O → Bool
+    by_read x = K x.conn x.tag
 
-  pub reads_without : (which : Fid → Option ℕ) (t : Tables) (ws : List Waiting)
-      → reads_in which t (without by_waiting ws) ≡ without by_read (reads_in which t ws)
-  reads_without which t [] = refl
-  reads_without which t (w ∷ ws) = by (K w.conn w.tag) refl (reads_without which t ws)
-    where
-      o : Option ℕ
-      o = opening_by which (fid_of t w.conn w.fid)
+    one_read : (o : Option O) (w : Waiting) (b : Bool) (xs : List (WaitingRead O)) → K w.conn w.tag ≡ b
+        → cond (not b) (with_read o w (without by_read xs)) (without by_read xs) ≡ without by_read (with_read o w xs)
+    one_read None w true xs e = refl
+    one_read None w false xs e = refl
+    one_read (Some o) w true xs e = rw e refl
+    one_read (Some o) w false xs e = rw e refl
 
-      by : (b : Bool) → K w.conn w.tag ≡ b → reads_in which t (without by_waiting ws) ≡ without by_read
-          (reads_in which t ws)
-          → reads_in which t (cond (not (K w.conn w.tag)) (w ∷ without by_waiting ws) (without by_waiting ws))
-          ≡ without by_read (with_read (opening_by which (fid_of t w.conn w.fid)) w (reads_in which t ws))
-      by true e later = rw e (later ∙ one_read (opening_by which (fid_of t w.conn w.fid)) w true (reads_in which t ws)
-          e)
-      by false e later =
-          rw e (ap (with_read (opening_by which (fid_of t w.conn w.fid)) w) later
-          ∙ one_read (opening_by which (fid_of t w.conn w.fid)) w false (reads_in which t ws) e)
+    pub reads_without : (which : Fid → Option O) (t : Tables) (ws : List Waiting)
+        → reads_in which t (without by_waiting ws) ≡ without by_read (reads_in which t ws)
+    reads_without which t [] = refl
+    reads_without which t (w ∷ ws) = by (K w.conn w.tag) refl (reads_without which t ws)
+      where
+        by : (b : Bool) → K w.conn w.tag ≡ b → reads_in which t (without by_waiting ws) ≡ without by_read
+            (reads_in which t ws)
+            → reads_in which t (cond (not (K w.conn w.tag)) (w ∷ without by_waiting ws) (without by_waiting ws))
+            ≡ without by_read (with_read (opening_by which (fid_of t w.conn w.fid)) w (reads_in which t ws))
+        by true e later = rw e (later ∙ one_read (opening_by which (fid_of t w.conn w.fid)) w true (reads_in which t ws)
+            e)
+        by false e later =
+            rw e (ap (with_read (opening_by which (fid_of t w.conn w.fid)) w) later
+            ∙ one_read (opening_by which (fid_of t w.conn w.fid)) w false (reads_in which t ws) e)
 
-  pub told_without : (rs : List Asker) → without by_read (map told rs) ≡ map told (without by_asker rs)
-  told_without [] = refl
-  told_without (r ∷ rs) =
-      elim (K r.conn r.tag) as (λ b. cond (not b) (told r ∷ without by_read (map told rs))
-      (without by_read (map told rs)) ≡ map told (cond (not b) (r ∷ without by_asker rs) (without by_asker rs))) [
-        | true ↦ told_without rs
-        | false ↦ ap (λ (l : List WaitingRead). told r ∷ l) (told_without rs)
-      ]
+    -- the reads as the files tell them
+    module _ {A : Type 0} (tells : A → WaitingRead O) where
+      abbrev pub by_told : A → Bool
+      by_told r = K (tells r).conn (tells r).tag
 
-  -- without the same keys the lists are the same still
-  pub zip_without : (which : Fid → Option ℕ) (t : Tables) (ws : List Waiting) (rs : List Asker)
-      → reads_in which t ws ≡ map told rs
-      → reads_in which t (without by_waiting ws) ≡ map told (without by_asker rs)
-  zip_without which t ws rs same = reads_without which t ws ∙ ap (without by_read) same ∙ told_without rs
+      pub told_without : (rs : List A) → without by_read (map tells rs) ≡ map tells (without by_told rs)
+      told_without [] = refl
+      told_without (r ∷ rs) =
+          elim (by_told r) as (λ b. cond (not b) (tells r ∷ without by_read (map tells rs))
+          (without by_read (map tells rs)) ≡ map tells (cond (not b) (r ∷ without by_told rs) (without by_told rs))) [
+            | true ↦ told_without rs
+            | false ↦ ap (λ (l : List (WaitingRead O)). tells r ∷ l) (told_without rs)
+          ]
+
+      -- without the same keys the lists are the same still
+      pub zip_without : (which : Fid → Option O) (t : Tables) (ws : List Waiting) (rs : List A)
+          → reads_in which t ws ≡ map tells rs
+          → reads_in which t (without by_waiting ws) ≡ map tells (without by_told rs)
+      zip_without which t ws rs same = reads_without which t ws ∙ ap (without by_read) same ∙ told_without rs
 
 -- ---- one list's read in the other
 
 -- the read of the sessions that is this one
-pub record HasWaiting (which : Fid → Option ℕ) (t : Tables) (ws : List Waiting) (x : WaitingRead) : Type 0 where
-  pub waiting : Waiting
-  pub there : IsIn ws waiting
-  pub conn : waiting.conn ≡ x.conn
-  pub tag : waiting.tag ≡ x.tag
-  pub opens : opening_by which (fid_of t waiting.conn waiting.fid) ≡ Some x.opening
-
-more : (which : Fid → Option ℕ) (t : Tables) (w : Waiting) (ws : List Waiting) (x : WaitingRead)
-    → HasWaiting which t ws x → HasWaiting which t (w ∷ ws) x
-more which t w ws x h = record { waiting = h.waiting; there = inr h.there; conn = h.conn; tag = h.tag; opens = h.opens }
-
-pub read_waits : (which : Fid → Option ℕ) (t : Tables) (ws : List Waiting) (x : WaitingRead)
-    → IsIn (reads_in which t ws) x → HasWaiting which t ws x
-read_waits which t [] x i = absurd i
-read_waits which t (w ∷ ws) x i = by (opening_by which (fid_of t w.conn w.fid)) refl (read_waits which t ws x) i
+pub record HasWaiting {O : Type 0} (which : Fid → Option O) (t : Tables) (ws : List Waiting) (x : WaitingRead O) : Type 0
   where
-    by : (o : Option ℕ) → opening_by which (fid_of t w.conn w.fid) ≡ o →
-        (IsIn (reads_in which t ws) x → HasWaiting which t ws x) → IsIn (with_read o w (reads_in which t ws)) x
-        → HasWaiting which t (w ∷ ws) x
-    by None e later j = more which t w ws x (later j)
-    by (Some o) e later (inl j) = record {
-      waiting = w;
-      there = inl refl;
-      conn = ap (λ (y : WaitingRead). y.conn) j;
-      tag = ap (λ (y : WaitingRead). y.tag) j;
-      opens = e ∙ ap (λ (y : WaitingRead). Some y.opening) j;
-    }
-    by (Some o) e later (inr j) = more which t w ws x (later j)
+    pub waiting : Waiting
+    pub there : IsIn ws waiting
+    pub conn : waiting.conn ≡ x.conn
+    pub tag : waiting.tag ≡ x.tag
+    pub opens : opening_by which (fid_of t waiting.conn waiting.fid) ≡ Some x.opening
 
-told_in : (rs : List Asker) (r : Asker) → IsIn rs r → IsIn (map told rs) (told r)
-told_in [] r i = absurd i
-told_in (s ∷ rs) r (inl e) = inl (ap told e)
-told_in (s ∷ rs) r (inr i) = inr (told_in rs r i)
+module _ {O : Type 0} (which : Fid → Option O) (t : Tables) where
+  more : (w : Waiting) (ws : List Waiting) (x : WaitingRead O) → HasWaiting which t ws x → HasWaiting which t (w ∷ ws) x
+  more w ws x h = record { waiting = h.waiting; there = inr h.there; conn = h.conn; tag = h.tag; opens = h.opens }
 
-pub asker_waits : (which : Fid → Option ℕ) (t : Tables) (ws : List Waiting) (rs : List Asker)
-    → reads_in which t ws ≡ map told rs → (r : Asker) → IsIn rs r → HasWaiting which t ws (told r)
-asker_waits which t ws rs same r i = read_waits which t ws (told r)
-    (subst (λ (l : List WaitingRead). IsIn l (told r)) (sym same) (told_in rs r i))
+  pub read_waits : (ws : List Waiting) (x : WaitingRead O) → IsIn (reads_in which t ws) x → HasWaiting which t ws x
+  read_waits [] x i = absurd i
+  read_waits (w ∷ ws) x i = by (opening_by which (fid_of t w.conn w.fid)) refl (read_waits ws x) i
+    where
+      by : (o : Option O) → opening_by which (fid_of t w.conn w.fid) ≡ o →
+          (IsIn (reads_in which t ws) x → HasWaiting which t ws x) → IsIn (with_read o w (reads_in which t ws)) x
+          → HasWaiting which t (w ∷ ws) x
+      by None e later j = more w ws x (later j)
+      by (Some o) e later (inl j) = record {
+        waiting = w;
+        there = inl refl;
+        conn = ap (λ (y : WaitingRead O). y.conn) j;
+        tag = ap (λ (y : WaitingRead O). y.tag) j;
+        opens = e ∙ ap (λ (y : WaitingRead O). Some y.opening) j;
+      }
+      by (Some o) e later (inr j) = more w ws x (later j)
+
+  module _ {A : Type 0} (tells : A → WaitingRead O) where
+    told_in : (rs : List A) (r : A) → IsIn rs r → IsIn (map tells rs) (tells r)
+    told_in [] r i = absurd i
+    told_in (s ∷ rs) r (inl e) = inl (ap tells e)
+    told_in (s ∷ rs) r (inr i) = inr (told_in rs r i)
+
+    pub asker_waits : (ws : List Waiting) (rs : List A) → reads_in which t ws ≡ map tells rs → (r : A) → IsIn rs r
+        → HasWaiting which t ws (tells r)
+    asker_waits ws rs same r i = read_waits ws (tells r)
+        (subst (λ (l : List (WaitingRead O)). IsIn l (tells r)) (sym same) (told_in rs r i))
+
+    -- what is true of the keys of the sessions' reads is true of these
+    pub all_wait : (L : ℕ → ℕ → Type 0) (ws : List Waiting) (rs : List A) → reads_in which t ws ≡ map tells rs
+        → All (λ w. L w.conn w.tag) ws → All (λ r. L (tells r).conn (tells r).tag) rs
+    all_wait L ws rs same h =
+        all_by (λ r. L (tells r).conn (tells r).tag) rs (λ r i. let x = asker_waits ws rs same r i in
+        subst (λ (g : ℕ). L (tells r).conn g) x.tag (subst (λ (c : ℕ). L c x.waiting.tag) x.conn
+        (all_in (λ w. L w.conn w.tag) ws x.waiting h x.there)))
 
 -- ---- keys that are apart
 
@@ -181,135 +196,161 @@ any_apart p ws w apart i = by (p w) refl
         let key = key_parts w.conn w.tag k.0.conn k.0.tag parts.1 in
         both_ways (p w) e (ap p (apart_same ws w k.0 apart i k.1 key.0 key.1) ∙ parts.0))
 
--- ---- the reads of event files, or of ports, are apart
+-- ---- the reads of a kind of files are apart
 
-abbrev pub AsksApart : List Asker → Type 0
-AsksApart [] = Unit {0}
-AsksApart (r ∷ rs) = (list_any (is_read r.conn r.tag) rs ≡ false) × AsksApart rs
-
-is_named : ℕ → ℕ → WaitingRead → Bool
+abbrev pub is_named : {O : Type 0} → ℕ → ℕ → WaitingRead O → Bool
 is_named conn tag x = eqb x.conn conn && eqb x.tag tag
 
-ReadsApart : List WaitingRead → Type 0
-ReadsApart [] = Unit {0}
-ReadsApart (x ∷ xs) = (list_any (is_named x.conn x.tag) xs ≡ false) × ReadsApart xs
+module _ {O : Type 0} where
+  ReadsApart : List (WaitingRead O) → Type 0
+  ReadsApart [] = Unit {0}
+  ReadsApart (x ∷ xs) = (list_any (is_named x.conn x.tag) xs ≡ false) × ReadsApart xs
 
-none_read : (which : Fid → Option ℕ) (t : Tables) (c g : ℕ) (ws : List Waiting)
-    → list_any (is_waiting c g) ws ≡ false → list_any (is_named c g) (reads_in which t ws) ≡ false
-unfolding is_named
-none_read which t c g [] h = refl
-none_read which t c g (w ∷ ws) h =
-    let parts : (is_waiting c g w ≡ false) × (list_any (is_waiting c g) ws ≡ false) = or_parts (is_waiting c g w)
-    (list_any (is_waiting c g) ws) h in
-    elim (opening_by which (fid_of t w.conn w.fid)) as (λ o. list_any (is_named c g)
-    (with_read o w (reads_in which t ws)) ≡ false) [
-      | None ↦ none_read which t c g ws parts.1
-      | Some o ↦ ap (λ (b : Bool). b || list_any (is_named c g) (reads_in which t ws)) parts.0
-          ∙ none_read which t c g ws parts.1
-    ]
+  none_read : (which : Fid → Option O) (t : Tables) (c g : ℕ) (ws : List Waiting)
+      → list_any (is_waiting c g) ws ≡ false → list_any (is_named c g) (reads_in which t ws) ≡ false
+  none_read which t c g [] h = refl
+  none_read which t c g (w ∷ ws) h =
+      let parts : (is_waiting c g w ≡ false) × (list_any (is_waiting c g) ws ≡ false) = or_parts (is_waiting c g w)
+      (list_any (is_waiting c g) ws) h in
+      elim (opening_by which (fid_of t w.conn w.fid)) as (λ o. list_any (is_named c g)
+      (with_read o w (reads_in which t ws)) ≡ false) [
+        | None ↦ none_read which t c g ws parts.1
+        | Some o ↦ ap (λ (b : Bool). b || list_any (is_named c g) (reads_in which t ws)) parts.0
+            ∙ none_read which t c g ws parts.1
+      ]
 
-reads_apart : (which : Fid → Option ℕ) (t : Tables) (ws : List Waiting) → AreApart ws → ReadsApart (reads_in which t ws)
-unfolding ReadsApart
-reads_apart which t [] apart = tt
-reads_apart which t (w ∷ ws) apart =
-    elim (opening_by which (fid_of t w.conn w.fid)) as (λ o. ReadsApart (with_read o w (reads_in which t ws))) [
-      | None ↦ reads_apart which t ws apart.1
-      | Some o ↦ (none_read which t w.conn w.tag ws apart.0, reads_apart which t ws apart.1)
-    ]
+  reads_apart : (which : Fid → Option O) (t : Tables) (ws : List Waiting) → AreApart ws
+      → ReadsApart (reads_in which t ws)
+  unfolding ReadsApart
+  reads_apart which t [] apart = tt
+  reads_apart which t (w ∷ ws) apart =
+      elim (opening_by which (fid_of t w.conn w.fid)) as (λ o. ReadsApart (with_read o w (reads_in which t ws))) [
+        | None ↦ reads_apart which t ws apart.1
+        | Some o ↦ (none_read which t w.conn w.tag ws apart.0, reads_apart which t ws apart.1)
+      ]
 
-named_told : (c g : ℕ) (rs : List Asker) → list_any (is_named c g) (map told rs) ≡ list_any (is_read c g) rs
-unfolding is_named
-named_told c g [] = refl
-named_told c g (r ∷ rs) = ap (λ (b : Bool). is_read c g r || b) (named_told c g rs)
+  module _ {A : Type 0} (tells : A → WaitingRead O) where
+    -- whether it has this key
+    abbrev pub has_key : ℕ → ℕ → A → Bool
+    has_key c g r = is_named c g (tells r)
 
-told_apart : (rs : List Asker) → ReadsApart (map told rs) → AsksApart rs
-unfolding ReadsApart
-told_apart [] h = tt
-told_apart (r ∷ rs) h = (sym (named_told r.conn r.tag rs) ∙ h.0, told_apart rs h.1)
+    abbrev pub AsksApart : List A → Type 0
+    AsksApart [] = Unit {0}
+    AsksApart (r ∷ rs) = (list_any (has_key (tells r).conn (tells r).tag) rs ≡ false) × AsksApart rs
 
-pub askers_apart : (which : Fid → Option ℕ) (t : Tables) (ws : List Waiting) (rs : List Asker)
-    → reads_in which t ws ≡ map told rs → AreApart ws → AsksApart rs
-askers_apart which t ws rs same apart = told_apart rs (subst ReadsApart same (reads_apart which t ws apart))
+    named_told : (c g : ℕ) (rs : List A) → list_any (is_named c g) (map tells rs) ≡ list_any (has_key c g) rs
+    named_told c g [] = refl
+    named_told c g (r ∷ rs) = ap (λ (b : Bool). has_key c g r || b) (named_told c g rs)
 
--- a key that no read of the sessions has
-pub none_asks : (which : Fid → Option ℕ) (t : Tables) (c g : ℕ) (ws : List Waiting) (rs : List Asker)
-    → reads_in which t ws ≡ map told rs → list_any (is_waiting c g) ws ≡ false → list_any (is_read c g) rs ≡ false
-none_asks which t c g ws rs same none = sym (named_told c g rs) ∙ ap (list_any (is_named c g)) (sym same)
-    ∙ none_read which t c g ws none
+    told_apart : (rs : List A) → ReadsApart (map tells rs) → AsksApart rs
+    unfolding ReadsApart
+    told_apart [] h = tt
+    told_apart (r ∷ rs) h = (sym (named_told (tells r).conn (tells r).tag rs) ∙ h.0, told_apart rs h.1)
 
--- ---- the first that passes goes
+    pub askers_apart : (which : Fid → Option O) (t : Tables) (ws : List Waiting) (rs : List A)
+        → reads_in which t ws ≡ map tells rs → AreApart ws → AsksApart rs
+    askers_apart which t ws rs same apart = told_apart rs (subst ReadsApart same (reads_apart which t ws apart))
 
-no_read_without : (q : Asker → Bool) (c g : ℕ) (rs : List Asker) → list_any (is_read c g) rs ≡ false →
-    list_any (is_read c g) (without q rs) ≡ false
-no_read_without q c g rs h =
-    false_from_ne_true (list_any (is_read c g) (without q rs)) (λ t. let k = which_any (is_read c g) (without q rs) t in
-    both_ways (list_any (is_read c g) rs) h (any_in (is_read c g) rs k.0 (in_without q rs k.0 k.1).0 k.2))
+    -- a key that no read of the sessions has
+    pub none_asks : (which : Fid → Option O) (t : Tables) (c g : ℕ) (ws : List Waiting) (rs : List A)
+        → reads_in which t ws ≡ map tells rs → list_any (is_waiting c g) ws ≡ false → list_any (has_key c g) rs ≡ false
+    none_asks which t c g ws rs same none = sym (named_told c g rs) ∙ ap (list_any (is_named c g)) (sym same)
+        ∙ none_read which t c g ws none
 
-kept : (c g : ℕ) (vs : List Asker) → list_any (is_read c g) vs ≡ false → without (is_read c g) vs ≡ vs
-kept c g [] k = refl
-kept c g (v ∷ vs) k =
-    let parts : (is_read c g v ≡ false) × (list_any (is_read c g) vs ≡ false) = or_parts (is_read c g v)
-    (list_any (is_read c g) vs) k in
-    ap (λ (b : Bool). cond (not b) (v ∷ without (is_read c g) vs) (without (is_read c g) vs)) parts.0
-    ∙ ap (λ (l : List Asker). v ∷ l) (kept c g vs parts.1)
+    -- ---- the first that passes goes
 
-pub found : (p : Asker → Bool) (vs : List Asker) (r : Asker) → find p vs ≡ Some r → IsIn vs r
-found p [] r k = absurd cc
-found p (v ∷ vs) r k =
-    (elim (p v) as (λ b. cond b (Some v) (find p vs) ≡ Some r → IsIn (v ∷ vs) r) [
-      | true ↦ λ j. inl cc
-      | false ↦ λ j. inr (found p vs r j)
-    ]) k
+    no_read_without : (q : A → Bool) (c g : ℕ) (rs : List A) → list_any (has_key c g) rs ≡ false →
+        list_any (has_key c g) (without q rs) ≡ false
+    no_read_without q c g rs h =
+        false_from_ne_true (list_any (has_key c g) (without q rs)) (λ t.
+        let k = which_any (has_key c g) (without q rs) t in
+        both_ways (list_any (has_key c g) rs) h (any_in (has_key c g) rs k.0 (in_without q rs k.0 k.1).0 k.2))
 
-pub first_without : (p : Asker → Bool) (rs : List Asker) (r : Asker) → find p rs ≡ Some r → AsksApart rs
-    → without_first p rs ≡ without (is_read r.conn r.tag) rs
-first_without p [] r h apart = absurd cc
-first_without p (x ∷ rs) r h apart = by (p x) (λ j. first_without p rs r j apart.1) h
-  where
-    by : (b : Bool) → (find p rs ≡ Some r → without_first p rs ≡ without (is_read r.conn r.tag) rs)
-        → cond b (Some x) (find p rs) ≡ Some r
-        → cond b rs (x ∷ without_first p rs) ≡ without (is_read r.conn r.tag) (x ∷ rs)
-    by true later j =
-        let same : x ≡ r = cc in
-        subst (λ (y : Asker). rs ≡ without (is_read y.conn y.tag) (x ∷ rs)) same
-        (sym (ap (λ (b : Bool). cond (not b) (x ∷ without (is_read x.conn x.tag) rs)
-        (without (is_read x.conn x.tag) rs)) (same_key x.conn x.tag x.conn x.tag refl refl)
-        ∙ kept x.conn x.tag rs apart.0))
-    by false later j =
-        let other : is_read r.conn r.tag x ≡ false = false_from_ne_true (is_read r.conn r.tag x)
-        (λ k. let q = key_parts x.conn x.tag r.conn r.tag k in
-        both_ways (list_any (is_read x.conn x.tag) rs) apart.0 (any_in (is_read x.conn x.tag) rs r (found p rs r j)
-        (same_key r.conn r.tag x.conn x.tag (sym q.0) (sym q.1)))) in
-        ap (λ (l : List Asker). x ∷ l) (later j)
-        ∙ sym (ap (λ (b : Bool). cond (not b) (x ∷ without (is_read r.conn r.tag) rs)
-        (without (is_read r.conn r.tag) rs)) other)
+    kept : (c g : ℕ) (vs : List A) → list_any (has_key c g) vs ≡ false → without (has_key c g) vs ≡ vs
+    kept c g [] k = refl
+    kept c g (v ∷ vs) k =
+        let parts : (has_key c g v ≡ false) × (list_any (has_key c g) vs ≡ false) = or_parts (has_key c g v)
+        (list_any (has_key c g) vs) k in
+        ap (λ (b : Bool). cond (not b) (v ∷ without (has_key c g) vs) (without (has_key c g) vs)) parts.0
+        ∙ ap (λ (l : List A). v ∷ l) (kept c g vs parts.1)
 
-pub asks_without : (q : Asker → Bool) (rs : List Asker) → AsksApart rs → AsksApart (without q rs)
-asks_without q [] apart = tt
-asks_without q (r ∷ rs) apart =
-    elim (q r) as (λ b. AsksApart (cond (not b) (r ∷ without q rs) (without q rs))) [
-      | true ↦ asks_without q rs apart.1
-      | false ↦ (no_read_without q r.conn r.tag rs apart.0, asks_without q rs apart.1)
-    ]
+    pub asks_without : (q : A → Bool) (rs : List A) → AsksApart rs → AsksApart (without q rs)
+    asks_without q [] apart = tt
+    asks_without q (r ∷ rs) apart =
+        elim (q r) as (λ b. AsksApart (cond (not b) (r ∷ without q rs) (without q rs))) [
+          | true ↦ asks_without q rs apart.1
+          | false ↦ (no_read_without q (tells r).conn (tells r).tag rs apart.0, asks_without q rs apart.1)
+        ]
+
+    -- a key that no read has isn't this one's
+    pub not_that : (c g : ℕ) (rs : List A) (r : A) → list_any (has_key c g) rs ≡ false → IsIn rs r
+        → (eqb c (tells r).conn && eqb g (tells r).tag) ≡ false
+    not_that c g rs r none i =
+        false_from_ne_true (eqb c (tells r).conn && eqb g (tells r).tag) (λ t. let parts = key_parts c g (tells r).conn
+        (tells r).tag t in
+        both_ways (list_any (has_key c g) rs) none (any_in (has_key c g) rs r i
+        (same_key (tells r).conn (tells r).tag c g (sym parts.0) (sym parts.1))))
+
+    -- what takes the first one that passes out of a list
+    module _ (first : (A → Bool) → List A → List A) (none : (p : A → Bool) → first p [] ≡ [])
+        (one : (p : A → Bool) (x : A) (xs : List A) → first p (x ∷ xs) ≡ cond (p x) xs (x ∷ first p xs)) where
+      pub none_first : (p q : A → Bool) (rs : List A) → list_any p rs ≡ false → list_any p (first q rs) ≡ false
+      none_first p q [] h = ap (list_any p) (none q)
+      none_first p q (r ∷ rs) h =
+          let parts : (p r ≡ false) × (list_any p rs ≡ false) = or_parts (p r) (list_any p rs) h in
+          ap (list_any p) (one q r rs)
+          ∙ (elim (q r) as (λ b. list_any p (cond b rs (r ∷ first q rs)) ≡ false) [
+            | true ↦ parts.1
+            | false ↦ ap (λ (b : Bool). b || list_any p (first q rs)) parts.0 ∙ none_first p q rs parts.1
+          ])
+
+      pub first_without : (p : A → Bool) (rs : List A) (r : A) → find p rs ≡ Some r → AsksApart rs
+          → first p rs ≡ without (has_key (tells r).conn (tells r).tag) rs
+      first_without p [] r h apart = absurd cc
+      first_without p (x ∷ rs) r h apart = one p x rs ∙ by (p x) (λ j. first_without p rs r j apart.1) h
+        where
+          by : (b : Bool) → (find p rs ≡ Some r → first p rs ≡ without (has_key (tells r).conn (tells r).tag) rs)
+              → cond b (Some x) (find p rs) ≡ Some r
+              → cond b rs (x ∷ first p rs) ≡ without (has_key (tells r).conn (tells r).tag) (x ∷ rs)
+          by true later j =
+              let same : x ≡ r = cc in
+              let mine : A → Bool = has_key (tells x).conn (tells x).tag in
+              subst (λ (y : A). rs ≡ without (has_key (tells y).conn (tells y).tag) (x ∷ rs)) same
+              (sym (ap (λ (b : Bool). cond (not b) (x ∷ without mine rs) (without mine rs))
+              (same_key (tells x).conn (tells x).tag (tells x).conn (tells x).tag refl refl)
+              ∙ kept (tells x).conn (tells x).tag rs apart.0))
+          by false later j =
+              let its : A → Bool = has_key (tells r).conn (tells r).tag in
+              let other : its x ≡ false = false_from_ne_true (its x)
+              (λ k. let q = key_parts (tells x).conn (tells x).tag (tells r).conn (tells r).tag k in
+              both_ways (list_any (has_key (tells x).conn (tells x).tag) rs) apart.0
+              (any_in (has_key (tells x).conn (tells x).tag) rs r (found p rs r j)
+              (same_key (tells r).conn (tells r).tag (tells x).conn (tells x).tag (sym q.0) (sym q.1)))) in
+              ap (λ (l : List A). x ∷ l) (later j)
+              ∙ sym (ap (λ (b : Bool). cond (not b) (x ∷ without its rs) (without its rs)) other)
 
 -- ---- other sessions with the same fids of these reads
 
-pub reads_same : (which : Fid → Option ℕ) (t u : Tables) (ws : List Waiting)
-    → ((w : Waiting) → IsIn ws w → opening_by which (fid_of u w.conn w.fid) ≡ opening_by which (fid_of t w.conn w.fid))
-    → reads_in which u ws ≡ reads_in which t ws
-reads_same which t u [] h = refl
-reads_same which t u (w ∷ ws) h =
-    ap (λ (o : Option ℕ). with_read o w (reads_in which u ws)) (h w (inl refl))
-    ∙ ap (with_read (opening_by which (fid_of t w.conn w.fid)) w) (reads_same which t u ws (λ v i. h v (inr i)))
+module _ {O : Type 0} (which : Fid → Option O) where
+  pub reads_same : (t u : Tables) (ws : List Waiting)
+      → ((w : Waiting) → IsIn ws w → opening_by which (fid_of u w.conn w.fid)
+      ≡ opening_by which (fid_of t w.conn w.fid))
+      → reads_in which u ws ≡ reads_in which t ws
+  reads_same t u [] h = refl
+  reads_same t u (w ∷ ws) h =
+      ap (λ (o : Option O). with_read o w (reads_in which u ws)) (h w (inl refl))
+      ∙ ap (with_read (opening_by which (fid_of t w.conn w.fid)) w) (reads_same t u ws (λ v i. h v (inr i)))
 
-pub reads_push : (which : Fid → Option ℕ) (t : Tables) (ws : List Waiting) (w : Waiting)
-    → reads_in which t (ws ++ w ∷ []) ≡ reads_in which t ws ++ with_read (opening_by which (fid_of t w.conn w.fid)) w []
-reads_push which t [] w = refl
-reads_push which t (v ∷ ws) w = by (opening_by which (fid_of t v.conn v.fid)) (reads_push which t ws w)
-  where
-    by : (o : Option ℕ) → reads_in which t (ws ++ w ∷ []) ≡ reads_in which t ws
-        ++ with_read (opening_by which (fid_of t w.conn w.fid)) w []
-        → with_read o v (reads_in which t (ws ++ w ∷ [])) ≡ with_read o v (reads_in which t ws)
-        ++ with_read (opening_by which (fid_of t w.conn w.fid)) w []
-    by None later = later
-    by (Some o) later = ap (λ (l : List WaitingRead). record { conn = v.conn; tag = v.tag; opening = o } ∷ l) later
+  pub reads_push : (t : Tables) (ws : List Waiting) (w : Waiting)
+      → reads_in which t (ws ++ w ∷ []) ≡ reads_in which t ws
+      ++ with_read (opening_by which (fid_of t w.conn w.fid)) w []
+  reads_push t [] w = refl
+  reads_push t (v ∷ ws) w = by (opening_by which (fid_of t v.conn v.fid)) (reads_push t ws w)
+    where
+      by : (o : Option O) → reads_in which t (ws ++ w ∷ []) ≡ reads_in which t ws
+          ++ with_read (opening_by which (fid_of t w.conn w.fid)) w []
+          → with_read o v (reads_in which t (ws ++ w ∷ [])) ≡ with_read o v (reads_in which t ws)
+          ++ with_read (opening_by which (fid_of t w.conn w.fid)) w []
+      by None later = later
+      by (Some o) later =
+          ap (λ (l : List (WaitingRead O)). record { conn = v.conn; tag = v.tag; opening = o } ∷ l) later

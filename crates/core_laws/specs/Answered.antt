@@ -9,19 +9,23 @@ use Rattle.fid_table.specs.Tables.{is_waiting}
 use Rattle.wait_queue.specs.declared.types.Asker.{Asker}
 use Rattle.event_book.specs.BookState.{read_waits}
 use Rattle.plumb_ports.specs.PortsState.{read_waits as port_waits}
+use Rattle.acme_watch.specs.Watching.{read_waits as watch_waits}
+use Rattle.acme_watch.specs.declared.types.WatchRead.{WatchRead}
 use Rattle.am_journal.specs.declared.event.Event.{Event}
 use Rattle.am_journal.specs.declared.event.Event.TheVariants as event
 use Rattle.core_fids.specs.declared.effect.Answer.{Answer}
-use Rattle.core_fids.specs.declared.effect.Answer.TheVariants.{Says, Reads, ReadsPort}
+use Rattle.core_fids.specs.declared.effect.Answer.TheVariants.{Says, Reads, ReadsPort, ReadsWatch}
 use Rattle.core_answers.specs.Laws.{IsRefused}
 use Rattle.core_events.specs.declared.response.Feed.{Feed}
 use Rattle.core_events.specs.declared.response.Response.{Response}
-use Rattle.core_events.specs.Responses.{event_feed, port_feed}
+use Rattle.core_events.specs.Responses.{event_feed, port_feed, watch_feed}
 use Rattle.core_events.specs.Asking.{read_said}
 use Rattle.core_events.specs.PortAsking.{port_said}
+use Rattle.core_watch.specs.Asking.{watch_said}
 use Rattle.core_intents.specs.Doings.{doing_of}
 use Rattle.acme_core.specs.Run.{run, present_after}
 use Rattle.core_steps.specs.Stages.{response, asker_of}
+use Rattle.core_steps.specs.WatchReads.{watch_asked}
 use Rattle.core_parts.specs.States.{State}
 use Rattle.core_laws.specs.Saying.{said_after, is_told}
 use Rattle.am_journal.specs.declared.event.Journal.{Journal}
@@ -69,6 +73,13 @@ event_read s asker = record { feed = event_feed asker.opening; waits = read_wait
 abbrev pub port_read : State → Asker → OpeningRead
 port_read s asker = record { feed = port_feed asker.opening; waits = port_waits s.scene.ports asker }
 
+-- a read of `log` or of `jobs`
+abbrev pub watch_read : State → WatchRead → OpeningRead
+watch_read s r = record {
+  feed = watch_feed (record { file = r.file; opening = r.asker.opening });
+  waits = watch_waits s.scene.watch.log s.scene.watch.jobs r;
+}
+
 -- a message got this answer, and just one reply
 abbrev pub IsAnsweredBy : Journal → ℕ → TMsg → Option Answer → Type 0
 IsAnsweredBy before conn msg None = ⊥
@@ -80,10 +91,14 @@ IsAnsweredBy before conn msg (Some (Reads fid opening count)) =
 IsAnsweredBy before conn msg (Some (ReadsPort fid opening count)) =
     ReadsOnce before conn msg (port_read (run before) (asker_of conn msg.tag opening count))
     (port_said (run before).tables (run before).scene.ports (asker_of conn msg.tag opening count))
+IsAnsweredBy before conn msg (Some (ReadsWatch fid opening count)) =
+    ReadsOnce before conn msg (watch_read (run before) (watch_asked conn msg.tag opening count))
+    (watch_said (run before).tables (run before).scene.watch (watch_asked conn msg.tag opening count))
 
 -- Each message of the journal has in its step just one reply to its tag on its connection, its own R message or Rerror;
 -- or it has none and is a read that waits: its count isn't 0, and its opening has no carry, its window no item that
--- nobody took, or its opening of a port no message (`read_waits` of event_book and of plumb_ports).
+-- nobody took, its opening of a port no message, that of `log` no line, or there is no request for that of `jobs`
+-- (`read_waits` of event_book, plumb_ports and acme_watch).
 abbrev pub MessagesAreAnswered : Journal → Type 0
 MessagesAreAnswered journal =
     (before : Journal) (behind : List Event) (conn : ℕ) (msg : TMsg)

@@ -3,6 +3,7 @@ use Rattle.std.specs.Prelude.{◌≡◌, ℕ, ◌+◌, ◌<◌, true, false, Lis
 use Rattle.std.specs.List.{Contains, list_any}
 use Rattle.fid_table.specs.Tables.{is_waiting, msize_of}
 use Rattle.wait_queue.specs.Reads.{is_read}
+use Rattle.acme_watch.specs.Reads.{is_asked}
 use Rattle.win_events.specs.declared.item.Item.{Item}
 use Rattle.win_events.specs.declared.item.Life.TheVariants.{Back}
 use Rattle.event_book.specs.BookState.{BookState, is_open_window, recorded_of, after_put}
@@ -77,6 +78,7 @@ pub record IsFree (journal : Journal) (conn tag : ℕ) : Type 0 where
   pub waiting : list_any (is_waiting conn tag) (run journal).tables.waiting ≡ false
   pub reads : list_any (is_read conn tag) (run journal).scene.book.reads ≡ false
   pub port_reads : list_any (is_read conn tag) (run journal).scene.ports.reads ≡ false
+  pub watch_reads : list_any (is_asked conn tag) (run journal).scene.watch.reads ≡ false
 
 -- Behind a Tflush that was answered by Rflush, whatever stood before it, no read waits with the tag that it names, and
 -- nothing is said to that tag, up to the next message of that tag.

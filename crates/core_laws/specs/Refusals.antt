@@ -17,18 +17,20 @@ use Rattle.am_journal.specs.declared.event.Event.TheVariants as event
 use Rattle.core_fids.specs.Servers.{ServerState, fid_by}
 use Rattle.core_fids.specs.Refusals.{refusal_text}
 use Rattle.core_fids.specs.declared.effect.Answer.{Answer}
-use Rattle.core_fids.specs.declared.effect.Answer.TheVariants.{Says, Reads, ReadsPort}
+use Rattle.core_fids.specs.declared.effect.Answer.TheVariants.{Says, Reads, ReadsPort, ReadsWatch}
 use Rattle.core_fids.specs.declared.effect.Reaction.{Reaction}
 use Rattle.core_fids.specs.declared.refusal.Refusal.{Refusal}
 use Rattle.core_fids.specs.declared.refusal.Refusal.TheVariants as refusal
 use Rattle.core_answers.specs.Reactions.{comes_first, session_reaction}
 use Rattle.core_events.specs.Asking.{read_said, reads_are_full}
 use Rattle.core_events.specs.PortAsking.{port_said, read_refusal}
+use Rattle.core_watch.specs.Asking.{watch_said, read_refusal as watch_refusal}
 use Rattle.core_tasks.specs.Tasks.{task_refusal}
 use Rattle.core_intents.specs.Doings.{doing_of, entry_by}
 use Rattle.core_intents.specs.Intents.{demand_refusal, demanded_task, reaction_at, server_at}
 use Rattle.core_intents.specs.Origins.{message_origin}
 use Rattle.core_steps.specs.Stages.{asker_of}
+use Rattle.core_steps.specs.WatchReads.{watch_asked}
 use Rattle.core_parts.specs.States.{Present}
 use Rattle.acme_core.specs.Run.{present_after}
 use Rattle.am_journal.specs.declared.event.Journal.{Journal}
@@ -65,9 +67,9 @@ reaction_refusal s conn body = if comes_first (server_at s conn) body
 
 -- ---- by what it asks of the scene
 
--- the item that it names
+-- the item that it names, or the request that it answers
 abbrev pub item_refusal : Present → ℕ → TMsg → Option Refusal
-item_refusal s conn msg = demand_refusal s.scene.book (reaction_at s conn msg).demand
+item_refusal s conn msg = demand_refusal s.scene (reaction_at s conn msg).demand
 
 -- control messages, rules, and plumb messages
 abbrev pub scene_refusal : Present → ℕ → TMsg → Option Refusal
@@ -83,13 +85,15 @@ event_refusal tables book asker = if is_living book asker.opening
     then (if read_waits book asker && reads_are_full tables asker.conn then Some refusal.TooManyWaitingReads else None)
     else Some refusal.WindowDeleted
 
--- of an event file or a port
+-- of an event file, a port, `log` or `jobs`
 abbrev pub opening_refusal : Present → ℕ → ℕ → Answer → Option Refusal
 opening_refusal s conn tag (Says body) = None
 opening_refusal s conn tag (Reads fid opening count) =
     event_refusal s.tables s.scene.book (asker_of conn tag opening count)
 opening_refusal s conn tag (ReadsPort fid opening count) =
     read_refusal s.tables s.scene.ports (asker_of conn tag opening count)
+opening_refusal s conn tag (ReadsWatch fid opening count) =
+    watch_refusal s.tables s.scene.watch (watch_asked conn tag opening count)
 
 -- ---- all of them
 
@@ -105,6 +109,8 @@ abbrev pub reply_of : Present → ℕ → ℕ → Answer → Option RBody
 reply_of s conn tag (Says body) = Some body
 reply_of s conn tag (Reads fid opening count) = read_said s.tables s.scene.book (asker_of conn tag opening count)
 reply_of s conn tag (ReadsPort fid opening count) = port_said s.tables s.scene.ports (asker_of conn tag opening count)
+reply_of s conn tag (ReadsWatch fid opening count) =
+    watch_said s.tables s.scene.watch (watch_asked conn tag opening count)
 
 -- The refusal's text is said, exactly where there is one; else its own R message, whose type byte is one more, unless
 -- it is a read that waits.

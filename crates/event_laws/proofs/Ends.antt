@@ -56,6 +56,7 @@ module _ (at : ℕ) (first : BookState) where
   end_cancelled s conn events.Nothing e = e
   end_cancelled s conn (events.Opens w) e = e
   end_cancelled s conn (events.Joins port) e = e
+  end_cancelled s conn (events.Watches file) e = e
   end_cancelled s conn (events.Cancels tag) e = one_ended at first s (Cancel conn tag) e tt
 
   end_left : (t : Tables) (s : BookState) (k : Kind) (d : Doing) → E s → E (left_book at t k d s)

@@ -25,7 +25,7 @@ use Rattle.core_scene.specs.declared.deed.Entry.{Entry}
 use Rattle.core_scene.specs.Scenes.{SceneState, done, done_all, deleted_by}
 use Rattle.core_fids.specs.Fids.{port_opening}
 use Rattle.core_fids.specs.declared.effect.Answer.{Answer}
-use Rattle.core_fids.specs.declared.effect.Answer.TheVariants.{Says, Reads, ReadsPort}
+use Rattle.core_fids.specs.declared.effect.Answer.TheVariants.{Says, Reads, ReadsPort, ReadsWatch}
 use Rattle.core_fids.specs.declared.effect.Effect.{Effect}
 use Rattle.core_fids.specs.declared.effect.Effect.TheVariants as effect
 use Rattle.core_fids.specs.declared.effect.EventChange.{EventChange}
@@ -36,15 +36,23 @@ use Rattle.core_fids.specs.Refusals.{refusal_text}
 use Rattle.core_events.specs.Asking.{reads_are_full, read_said}
 use Rattle.core_events.specs.declared.response.Feed.{Feed}
 use Rattle.core_events.specs.declared.response.FeedKind.{FeedKind}
-use Rattle.core_events.specs.declared.response.FeedKind.TheVariants.{Events, Port}
+use Rattle.core_events.specs.declared.response.FeedKind.TheVariants.{Events, Port, Log, Jobs}
 use Rattle.core_events.specs.declared.response.Response.{Response}
-use Rattle.core_events.specs.Responses.{feed_at, errors}
+use Rattle.core_events.specs.Responses.{feed_at, errors, watch_feed}
 use Rattle.core_events.specs.Serving.{then_served as book_then, served_most as book_served, served_all}
 use Rattle.core_events.specs.Waits.{is_of_fid, is_of_window, clunked, deletions}
 use Rattle.core_events.specs.PortAsking.{next_opening, can_join, joined_with, read_refusal, said_unless, read_unless}
 use Rattle.core_events.specs.PortClosing.{without_opening, without_fid, opening_in, ports_freed, ports_cancelled}
 use Rattle.core_events.specs.PortServing.{response_to, then_served, served_most, after_serving_most}
 use Rattle.core_events.proofs.PortTurns.{idle}
+use Rattle.acme_watch.specs.Watching.{WatchState, after_serve as after_watch}
+use Rattle.acme_watch.specs.declared.types.WatchFile.{WatchFile}
+use Rattle.acme_watch.specs.declared.types.WatchFile.TheVariants as watch
+use Rattle.acme_watch.specs.declared.types.WatchRead.{WatchRead}
+use Rattle.core_watch.specs.Asking.{watch_said}
+use Rattle.core_watch.specs.Serving.{next_served, then_served as watch_then, served_most as watch_served_most}
+use Rattle.core_watch.specs.Serving.{watch_served}
+use Rattle.core_watch.specs.declared.asking.ReadAt.{ReadAt}
 use Rattle.core_parts.specs.declared.kind.Kind.{Kind}
 use Rattle.core_parts.specs.declared.kind.Kind.TheVariants as kind
 use Rattle.core_intents.specs.Doings.{entry_of}
@@ -53,8 +61,10 @@ use Rattle.core_parts.specs.Kinds.{conn_of}
 use Rattle.core_parts.specs.States.{Present, next_entry}
 use Rattle.core_steps.specs.declared.reading.PortRead.{PortRead}
 use Rattle.core_steps.specs.PortReads.{port_read_of, if_port_said, asked_said, asked_ports}
+use Rattle.core_steps.specs.WatchReads.{if_watch_said, followed_said}
 use Rattle.core_steps.specs.Stages.{if_said, answer_said, message_said, acted, with_fid, read_tables, grown_tables}
-use Rattle.core_steps.specs.Stages.{put_book, open_ports, served, said, ports_after}
+use Rattle.core_steps.specs.Stages.{port_tables, put_book, open_ports, watch_read_at, open_watch, served, said}
+use Rattle.core_steps.specs.Stages.{ports_after}
 use Rattle.core_steps.proofs.Orders.{told_second}
 use Rattle.core_closing.specs.Closing.{left_ports}
 use Rattle.event_laws.specs.Calls.{deed_calls, ask_unless, read_calls, join_calls, leave_calls, fid_calls, freed_calls}
@@ -197,6 +207,7 @@ join_stage s (events.Joins port) =
           one s (Join port (next_opening s)) [] (refl, not_true (has_joined s (next_opening s)) fresh) (λ o. refl)
       | false ↦ λ e. none s
     ]) refl
+join_stage s (events.Watches file) = none s
 join_stage s (events.Cancels tag) = none s
 
 -- ---- waiting reads
@@ -254,6 +265,7 @@ cancel_stage : (s : PortsState) (conn : ℕ) (e : EventChange) → Stage s (canc
 cancel_stage s conn events.Nothing = none s
 cancel_stage s conn (events.Opens w) = none s
 cancel_stage s conn (events.Joins port) = none s
+cancel_stage s conn (events.Watches file) = none s
 cancel_stage s conn (events.Cancels tag) = one s (Cancel conn tag) [] tt (λ o. refl)
 
 left_stage : (s : PortsState) (t : Tables) (k : Kind) (d : Doing) → Stage s (left_calls t k d) [] (left_ports t k d s)
@@ -271,6 +283,8 @@ left_stage s t kind.Acts d = none s
 refused_on : (o : ℕ) (k : FeedKind) (opening : ℕ) (text : List ℕ) → data_on o k opening (r.Error text) ≡ []
 refused_on o Events opening text = refl
 refused_on o Port opening text = refl
+refused_on o Log opening text = refl
+refused_on o Jobs opening text = refl
 
 refused_in : (o : ℕ) (feed : Option Feed) (text : List ℕ) → data_in o feed (r.Error text) ≡ []
 refused_in o None text = refl
@@ -309,6 +323,7 @@ no_answer t s conn tag (Some (Says body)) o = refl
 no_answer t s conn tag (Some (Reads fid opening count)) o = no_read conn tag opening
     (read_said t s (record { conn = conn; tag = tag; opening = opening; count = count })) o
 no_answer t s conn tag (Some (ReadsPort fid opening count)) o = refl
+no_answer t s conn tag (Some (ReadsWatch fid opening count)) o = refl
 
 no_message : (t : Tables) (s : BookState) (k : Kind) (a : Option Answer) (o : ℕ) → data_of o (message_said t s k a) ≡ []
 no_message t s (kind.Dials conn) a o = refl
@@ -328,6 +343,31 @@ no_served (suc n) at s o = by (book_next s) (no_served n at (book_after s at) o)
     by (Some x) rest = ap (λ (l : List ℕ). l ++ data_of o (book_served n at (book_after s at)))
         (event_on o x.0.opening (r.Read x.1.bytes)) ∙ rest
 
+-- nor is what reads of `log` and `jobs` are answered
+watch_on : (o : ℕ) (file : WatchFile) (opening : ℕ) (body : RBody)
+    → data_in o (Some (watch_feed (record { file = file; opening = opening }))) body ≡ []
+watch_on o watch.Log opening body = refl
+watch_on o watch.Jobs opening body = refl
+
+no_watch : (read : WatchRead) (body : Option RBody) (o : ℕ) → data_of o (if_watch_said read body) ≡ []
+no_watch read None o = refl
+no_watch read (Some body) o = ap (λ (l : List ℕ). l ++ []) (watch_on o read.file read.asker.opening body)
+
+no_followed : (t : Tables) (w : WatchState) (read : Option ReadAt) (o : ℕ) → data_of o (followed_said t w read) ≡ []
+no_followed t w None o = refl
+no_followed t w (Some read) o = no_watch read.read (watch_said t w read.read) o
+
+no_watched : (n at : ℕ) (w : WatchState) (o : ℕ) → data_of o (watch_served_most n at w) ≡ []
+unfolding watch_served_most
+no_watched zero at w o = refl
+no_watched (suc n) at w o = by (next_served w) (no_watched n at (after_watch w at) o)
+  where
+    by : (x : Option (WatchRead × Piece)) → data_of o (watch_served_most n at (after_watch w at)) ≡ []
+        → data_of o (watch_then x (watch_served_most n at (after_watch w at))) ≡ []
+    by None rest = refl
+    by (Some x) rest = ap (λ (l : List ℕ). l ++ data_of o (watch_served_most n at (after_watch w at)))
+        (watch_on o x.0.file x.0.asker.opening (r.Read x.1.bytes)) ∙ rest
+
 -- ---- an entry
 
 pub entry_stage : (p : Present) (k : Kind) (d : Doing) → Stage p.scene.ports (calls_at p k d) (said p k d)
@@ -344,9 +384,11 @@ entry_stage p k d =
     let a : List Response = clunked p.tables (conn_of k) d.effect in
     let b : List Response = message_said (with_fid p k d) p.scene.book k d.answer in
     let c : List Response = asked_said (read_tables p k d) x read in
+    let l : List Response = followed_said (port_tables p k d) (acted p d).watch (watch_read_at p k d) in
     let f : List Response = deletions p.tables (deleted_by d.deeds) in
     let g : List Response = served_all (next_entry p) (put_book p k d) in
     let h : List Response = served_most n z in
+    let w : List Response = watch_served (next_entry p) (open_watch p k d) in
     let ds : List Call = deed_calls d.deeds in
     let rs : List Call = read_calls (read_tables p k d) x read in
     let js : List Call = join_calls y d.events in
@@ -359,15 +401,18 @@ entry_stage p k d =
     (read_stage (read_tables p k d) x read) in
     let joins : Stage s ((ds ++ rs) ++ js) ((a ++ b) ++ c) z = calls_more s y z (ds ++ rs) js ((a ++ b) ++ c) reads
     (join_stage y d.events) in
-    let deletes : Stage s ((ds ++ rs) ++ js) (((a ++ b) ++ c) ++ f) z = heard_more s z ((ds ++ rs) ++ js)
-    ((a ++ b) ++ c) f joins (no_deletions p.tables (deleted_by d.deeds)) in
-    let before : List Response = ((a ++ b) ++ c) ++ f in
+    let follows : Stage s ((ds ++ rs) ++ js) (((a ++ b) ++ c) ++ l) z = heard_more s z ((ds ++ rs) ++ js)
+    ((a ++ b) ++ c) l joins (no_followed (port_tables p k d) (acted p d).watch (watch_read_at p k d)) in
+    let deletes : Stage s ((ds ++ rs) ++ js) ((((a ++ b) ++ c) ++ l) ++ f) z = heard_more s z ((ds ++ rs) ++ js)
+    (((a ++ b) ++ c) ++ l) f follows (no_deletions p.tables (deleted_by d.deeds)) in
+    let before : List Response = (((a ++ b) ++ c) ++ l) ++ f in
     let calls : List Call = ((ds ++ rs) ++ js) ++ ss in
     let serves : Stage s calls (before ++ h) v = both s z v ((ds ++ rs) ++ js) ss before h deletes (serve_stage n z) in
     let all : Stage s calls (before ++ served p k d) v =
     heard_same s v calls before h (served p k d) serves
-    (λ o. told_second (data_of o) (data_more o) refl (grown_tables p k d) g h
-    (no_served (length (put_book p k d).reads) (next_entry p) (put_book p k d) o))
+    (λ o. told_second (data_of o) (data_more o) refl (grown_tables p k d) g h w
+    (no_served (length (put_book p k d).reads) (next_entry p) (put_book p k d) o)
+    (no_watched (length (open_watch p k d).reads) (next_entry p) (open_watch p k d) o))
     in
     calls_more s v (ports_after p k d) calls (left_calls (grown_tables p k d) k d) (before ++ served p k d) all
     (left_stage v (grown_tables p k d) k d)

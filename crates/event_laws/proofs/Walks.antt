@@ -17,7 +17,7 @@ use Rattle.book_calls.proofs.Trails.{IsMade, none_made, one_made}
 use Rattle.core_scene.specs.declared.deed.WindowItem.{WindowItem}
 use Rattle.core_scene.specs.Scenes.{deleted_by}
 use Rattle.core_fids.specs.declared.effect.Answer.{Answer}
-use Rattle.core_fids.specs.declared.effect.Answer.TheVariants.{Says, Reads, ReadsPort}
+use Rattle.core_fids.specs.declared.effect.Answer.TheVariants.{Says, Reads, ReadsPort, ReadsWatch}
 use Rattle.core_fids.specs.declared.effect.Effect.{Effect}
 use Rattle.core_fids.specs.declared.effect.Effect.TheVariants as effect
 use Rattle.core_fids.specs.declared.effect.EventChange.{EventChange}
@@ -28,10 +28,10 @@ use Rattle.core_fids.specs.Refusals.{refusal_text}
 use Rattle.core_events.specs.Asking.{opened, reads_are_full, said_to, book_asked, read_said, book_read}
 use Rattle.core_events.specs.declared.response.Feed.{Feed}
 use Rattle.core_events.specs.declared.response.FeedKind.{FeedKind}
-use Rattle.core_events.specs.declared.response.FeedKind.TheVariants.{Events, Port}
+use Rattle.core_events.specs.declared.response.FeedKind.TheVariants.{Events, Port, Log, Jobs}
 use Rattle.core_events.specs.declared.response.Response.{Response}
 use Rattle.core_events.specs.Putting.{put_one, put_all, is_ending, put_if_lives, put_living, ending}
-use Rattle.core_events.specs.Responses.{feed_at, errors}
+use Rattle.core_events.specs.Responses.{feed_at, errors, watch_feed}
 use Rattle.core_events.specs.Serving.{response_to, then_served, served_most, book_served_most, served_all}
 use Rattle.core_events.specs.Serving.{book_served_all}
 use Rattle.core_events.specs.Waits.{is_of_fid, is_of_window, clunked, deletions}
@@ -44,11 +44,20 @@ use Rattle.plumb_ports.specs.PortsState.{PortsState, served_of as port_served_of
 use Rattle.core_events.specs.PortAsking.{port_said}
 use Rattle.core_events.specs.PortServing.{then_served as then_port_served, served_most as ports_served_most}
 use Rattle.core_events.specs.PortServing.{ports_served}
+use Rattle.acme_watch.specs.Watching.{WatchState, after_serve as after_watch}
+use Rattle.acme_watch.specs.declared.types.WatchFile.{WatchFile}
+use Rattle.acme_watch.specs.declared.types.WatchFile.TheVariants as watch
+use Rattle.acme_watch.specs.declared.types.WatchRead.{WatchRead}
+use Rattle.core_watch.specs.Asking.{watch_said}
+use Rattle.core_watch.specs.Serving.{next_served, then_served as watch_then, served_most as watch_served_most}
+use Rattle.core_watch.specs.Serving.{watch_served}
+use Rattle.core_watch.specs.declared.asking.ReadAt.{ReadAt}
 use Rattle.core_steps.specs.declared.reading.PortRead.{PortRead}
 use Rattle.core_steps.specs.PortReads.{port_read_of, if_port_said, asked_said}
+use Rattle.core_steps.specs.WatchReads.{if_watch_said, followed_said}
 use Rattle.core_steps.specs.Stages.{asker_of, if_said, answer_said, answer_book, message_said, message_book, acted}
-use Rattle.core_steps.specs.Stages.{with_fid, read_tables, grown_tables, read_book, put_book, grown_book, open_ports}
-use Rattle.core_steps.specs.Stages.{served, said}
+use Rattle.core_steps.specs.Stages.{with_fid, read_tables, port_tables, grown_tables, read_book, put_book, grown_book}
+use Rattle.core_steps.specs.Stages.{open_ports, watch_read_at, open_watch, served, said}
 use Rattle.core_steps.proofs.Orders.{told_first}
 use Rattle.core_parts.specs.States.{Present, next_entry}
 use Rattle.event_laws.specs.Rreads.{Rread, rread_on, rread_in, rreads_of}
@@ -70,6 +79,8 @@ map_append f (x ∷ xs) ys = ap (λ (l : List Rread). f x ∷ l) (map_append f x
 refused_on : (at : ℕ) (k : FeedKind) (opening : ℕ) (text : List ℕ) → rread_on at k opening (r.Error text) ≡ []
 refused_on at Events opening text = refl
 refused_on at Port opening text = refl
+refused_on at Log opening text = refl
+refused_on at Jobs opening text = refl
 
 refused_in : (at : ℕ) (feed : Option Feed) (text : List ℕ) → rread_in at feed (r.Error text) ≡ []
 refused_in at None text = refl
@@ -116,6 +127,35 @@ no_ports_most at (suc n) p = no_then at (port_served_of p) (ports_served_most n 
 
 no_ports : (at : ℕ) (p : PortsState) → rreads_of at (ports_served p) ≡ []
 no_ports at p = no_ports_most at (length p.reads) p
+
+-- nor is what reads of `log` and `jobs` are answered
+watch_on : (at : ℕ) (file : WatchFile) (opening : ℕ) (body : RBody)
+    → rread_in at (Some (watch_feed (record { file = file; opening = opening }))) body ≡ []
+watch_on at watch.Log opening body = refl
+watch_on at watch.Jobs opening body = refl
+
+no_watch : (at : ℕ) (read : WatchRead) (body : Option RBody) → rreads_of at (if_watch_said read body) ≡ []
+no_watch at read None = refl
+no_watch at read (Some body) = ap (λ (l : List Rread). l ++ []) (watch_on at read.file read.asker.opening body)
+
+no_followed : (at : ℕ) (t : Tables) (w : WatchState) (o : Option ReadAt) → rreads_of at (followed_said t w o) ≡ []
+no_followed at t w None = refl
+no_followed at t w (Some read) = no_watch at read.read (watch_said t w read.read)
+
+no_watch_then : (at : ℕ) (o : Option (WatchRead × Piece)) (rest : List Response) → rreads_of at rest ≡ []
+    → rreads_of at (watch_then o rest) ≡ []
+no_watch_then at None rest h = refl
+no_watch_then at (Some x) rest h =
+    ap (λ (l : List Rread). l ++ rreads_of at rest) (watch_on at x.0.file x.0.asker.opening (r.Read x.1.bytes)) ∙ h
+
+no_watch_most : (at n : ℕ) (w : WatchState) → rreads_of at (watch_served_most n at w) ≡ []
+unfolding watch_served_most
+no_watch_most at zero w = refl
+no_watch_most at (suc n) w = no_watch_then at (next_served w) (watch_served_most n at (after_watch w at))
+    (no_watch_most at n (after_watch w at))
+
+no_watched : (at : ℕ) (w : WatchState) → rreads_of at (watch_served at w) ≡ []
+no_watched at w = no_watch_most at (length w.reads) w
 
 -- ---- made by calls, up to what was said
 
@@ -182,6 +222,7 @@ module _ (at : ℕ) (first : BookState) where
       ]) refl
   walk_opened heard s (events.Cancels tag) w = w
   walk_opened heard s (events.Joins port) w = w
+  walk_opened heard s (events.Watches file) w = w
 
   walk_put : (heard : List Response) (s : BookState) (i : WindowItem) → W heard s → W heard (put_one s i)
   walk_put heard s i w =
@@ -268,6 +309,7 @@ module _ (at : ℕ) (first : BookState) where
       s w refl
   walk_answer t heard s conn tag (Some (Reads fid opening count)) w = walk_read t heard s conn tag opening count w
   walk_answer t heard s conn tag (Some (ReadsPort fid opening count)) w = walk_silent heard [] s w refl
+  walk_answer t heard s conn tag (Some (ReadsWatch fid opening count)) w = walk_silent heard [] s w refl
 
   walk_message : (t : Tables) (heard : List Response) (s : BookState) (k : Kind) (a : Option Answer) → W heard s
       → W (heard ++ message_said t s k a) (message_book t s k a at)
@@ -323,16 +365,21 @@ grown p k d =
     (walk_opened at first (a ++ b) (read_book p k d) d.events read)
     in
     let q : List Response = asked_said (read_tables p k d) (acted p d).ports (port_read_of k d.answer) in
+    let l : List Response = followed_said (port_tables p k d) (acted p d).watch (watch_read_at p k d) in
     let f : List Response = ports_served (open_ports p k d) in
+    let w : List Response = watch_served at (open_watch p k d) in
     let asks : Walks at first ((a ++ b) ++ q) put = walk_silent at first (a ++ b) q put puts
     (no_asked at (read_tables p k d) (acted p d).ports (port_read_of k d.answer)) in
-    let deletes : Walks at first (((a ++ b) ++ q) ++ c) put = walk_silent at first ((a ++ b) ++ q) c put asks
-    (no_deletions at p.tables ends) in
-    let before : List Response = ((a ++ b) ++ q) ++ c in
+    let follows : Walks at first (((a ++ b) ++ q) ++ l) put = walk_silent at first ((a ++ b) ++ q) l put asks
+    (no_followed at (port_tables p k d) (acted p d).watch (watch_read_at p k d)) in
+    let deletes : Walks at first ((((a ++ b) ++ q) ++ l) ++ c) put = walk_silent at first (((a ++ b) ++ q) ++ l) c put
+    follows (no_deletions at p.tables ends) in
+    let before : List Response = (((a ++ b) ++ q) ++ l) ++ c in
     let taken : Walks at first (before ++ e) (book_served_all at put) = walk_most at first (length put.reads) before put
     deletes in
     let all : Walks at first (before ++ served p k d) (book_served_all at put) =
     walk_same at first before e (served p k d) (book_served_all at put) taken
-    (told_first (rreads_of at) (rreads_append at) refl (grown_tables p k d) e f (no_ports at (open_ports p k d)))
+    (told_first (rreads_of at) (rreads_append at) refl (grown_tables p k d) e f w (no_ports at (open_ports p k d))
+    (no_watched at (open_watch p k d)))
     in
     walk_all at first (before ++ served p k d) (book_served_all at put) (ending ends items) all

@@ -54,6 +54,7 @@ abbrev pub join_calls : PortsState → EventChange → List Call
 join_calls ports events.Nothing = []
 join_calls ports (events.Opens w) = []
 join_calls ports (events.Joins port) = if can_join ports port then Join port (next_opening ports) ∷ [] else []
+join_calls ports (events.Watches file) = []
 join_calls ports (events.Cancels tag) = []
 
 -- ---- what it ends
@@ -78,6 +79,7 @@ abbrev pub cancel_calls : ℕ → EventChange → List Call
 cancel_calls conn events.Nothing = []
 cancel_calls conn (events.Opens w) = []
 cancel_calls conn (events.Joins port) = []
+cancel_calls conn (events.Watches file) = []
 cancel_calls conn (events.Cancels tag) = Cancel conn tag ∷ []
 
 abbrev pub left_calls : Tables → Kind → Doing → List Call

@@ -10,7 +10,7 @@ use Rattle.book_calls.specs.PortLaws.{GetsItsMessages}
 use Rattle.am_journal.specs.declared.event.Event.{Event}
 use Rattle.core_events.specs.declared.response.Feed.{Feed}
 use Rattle.core_events.specs.declared.response.FeedKind.{FeedKind}
-use Rattle.core_events.specs.declared.response.FeedKind.TheVariants.{Events, Port}
+use Rattle.core_events.specs.declared.response.FeedKind.TheVariants.{Events, Port, Log, Jobs}
 use Rattle.core_events.specs.declared.response.Response.{Response}
 use Rattle.core_intents.specs.Doings.{doing_of}
 use Rattle.core_parts.specs.Kinds.{kind_of}
@@ -28,6 +28,8 @@ abbrev pub data_on : ℕ → FeedKind → ℕ → RBody → List ℕ
 data_on opening Port o (r.Read bytes) = if o == opening then bytes else []
 data_on opening Port o body = []
 data_on opening Events o body = []
+data_on opening Log o body = []
+data_on opening Jobs o body = []
 
 abbrev pub data_in : ℕ → Option Feed → RBody → List ℕ
 data_in opening None body = []

@@ -5,7 +5,7 @@ use Rattle.ninep_types.specs.declared.message.RBody.TheVariants as r
 use Rattle.am_journal.specs.declared.event.Event.{Event}
 use Rattle.core_events.specs.declared.response.Feed.{Feed}
 use Rattle.core_events.specs.declared.response.FeedKind.{FeedKind}
-use Rattle.core_events.specs.declared.response.FeedKind.TheVariants.{Events, Port}
+use Rattle.core_events.specs.declared.response.FeedKind.TheVariants.{Events, Port, Log, Jobs}
 use Rattle.core_events.specs.declared.response.Response.{Response}
 use Rattle.core_laws.specs.Saying.{said_after}
 use Rattle.am_journal.specs.declared.event.Journal.{Journal}
@@ -21,6 +21,8 @@ abbrev pub rread_on : ℕ → FeedKind → ℕ → RBody → List Rread
 rread_on at Events opening (r.Read bytes) = record { at = at; opening = opening; bytes = bytes } ∷ []
 rread_on at Events opening body = []
 rread_on at Port opening body = []
+rread_on at Log opening body = []
+rread_on at Jobs opening body = []
 
 abbrev pub rread_in : ℕ → Option Feed → RBody → List Rread
 rread_in at None body = []
