@@ -52,7 +52,7 @@ LONGEST = 60000
 SECONDS, SLOW = 60, 2
 # how many refused lines are taken out of a transcript
 REPAIRS = 40
-FEATURES = ("wire-all", "files", "events", "addr", "actions", "edit,=windows-edit", "plumb")
+FEATURES = ("wire-all", "files", "events", "addr", "actions", "edit,=windows-edit", "plumb", "log-jobs")
 HEADING = lines_of_text.HEADING.encode()
 # how many reads of a connection may wait, in format 1 and in format 2
 WAITING, WAITING_2 = 64, 256
@@ -66,10 +66,10 @@ d p = =# m0 t$ X/a/ X/./ Y/b/ B D e r w |sort <date >wc Edit Undo Redo Cut Snarf
 /d/ x:2 .. / event body p"""
 LINES = """{|}|Edit ,d|del|delete|name /d/x|clean|dirty|mark|nomark|get|put|addr=dot|dot=addr|limit=addr|cleartag|MX0 3
 |ML0 1|Ml0 3|plumb to p|type is text|data matches 'a(.*)'|arg isfile $0|data set $1|attr add a=1|plumb client it
-|plumb start it|a=1 click=0|v='x y'"""
+|plumb start it|a=1 click=0|v='x y'|1 ok|2 fail|1 no"""
 TOKENS = BYTES + [it.encode() for it in WORDS.split()] + [it.strip().encode() + b"\n" for it in LINES.split("|")]
 TOKENS += [b"Edit ", b"plumb to p\n\n", b"src\n\n/\ntext\n\n1\na"]
-NAMES = ["", *". .. new body event ctl tag addr data xdata errors index cons send rules edit p 1 2".split()]
+NAMES = ["", *". .. new body event ctl tag addr data xdata errors index cons log jobs send rules edit p 1 2".split()]
 ASKED = "Tversion Tauth Tattach Tflush Twalk Topen Tcreate Tread Twrite Tclunk Tremove Tstat Twstat".split()
 REFUSED = re.compile(rb"refused ([0-9]+) ([a-z]+)")
 Lines = List[bytes]
@@ -478,11 +478,18 @@ def look_at_report(lines: Lines, report: Lines, users: Dict[int, str]) -> None:
         size = len(body[6:].replace("\\\\", "-").replace("\\n", "-"))
         dot = [int(it) for it in head.split(" ")[3:5]]
         needs(dot[0] <= dot[1] <= size, "dot isn't in the body")
-    look_at_items(lines, rest[2 * count + 1 :])
+    left = look_at_items(lines, rest[2 * count + 1 :])
+    look_at_requests(lines, left, is_second)
 
 
-def look_at_items(lines: Lines, rest: List[str]) -> None:
-    """Whether items and requests of a report agree with the lines that were done."""
+def is_write(line: bytes) -> bool:
+    """Whether a line is a Twrite."""
+    message = message_of(line)
+    return message is not None and message[1].name == "Twrite"
+
+
+def look_at_items(lines: Lines, rest: List[str]) -> List[str]:
+    """Whether the items of a report agree with the lines that were done; answers the lines behind them."""
     count = int(rest[0].split(" ")[1])
     items = [it.split(" ") for it in rest[1 : count + 1]]
     last = (0, 0, False)
@@ -494,14 +501,27 @@ def look_at_items(lines: Lines, rest: List[str]) -> None:
         needs(all(1 <= one <= len(lines) for one in entries), "an item's entry")
         needs(it[3] == "pending" or not (window == last[0] and last[2]), "an item that pends before another")
         if it[3] == "back":
-            message = message_of(lines[entries[1] - 1])
-            is_write = message is not None and message[1].name == "Twrite"
-            needs(is_write and entries[0] < entries[1], "what is written back")
+            needs(is_write(lines[entries[1] - 1]) and entries[0] < entries[1], "what is written back")
         last = (window, number, it[3] == "pending")
-    asked = rest[count + 1 :]
-    count = int(asked[0].split(" ")[1])
-    needs(len(asked) == 1 + 2 * count, "the report's requests")
-    needs([it.split(" ")[1] for it in asked[1::2]] == [str(k) for k in range(1, count + 1)], "the requests' numbers")
+    return rest[count + 1 :]
+
+
+def look_at_requests(lines: Lines, asked: List[str], is_second: bool) -> None:
+    """Whether the requests of a report agree with the lines that were done. Format 2 alone tells their states."""
+    count, each = int(asked[0].split(" ")[1]), 3 if is_second else 2
+    needs(len(asked) == 1 + each * count, "the report's requests")
+    needs([it.split(" ")[1] for it in asked[1::each]] == [str(k) for k in range(1, count + 1)], "the requests' numbers")
+    states = [it.split(" ") for it in asked[3::3]] if is_second else []
+    for it in states:
+        needs(it[0] == "state" and len(it) == {"waiting": 2, "taken": 4, "answered": 6, "lost": 5}[it[1]], "a state")
+        entries = [int(one) for one in it[3:5]]
+        needs(entries == sorted(entries) and all(1 <= one <= len(lines) for one in entries), "a state's entries")
+        if it[1] == "answered":
+            needs(it[5] in ("ok", "fail") and is_write(lines[entries[1] - 1]), "an answer to a request")
+    is_waiting = [it[1] == "waiting" for it in states]
+    needs(is_waiting == sorted(is_waiting), "a request that waits before another")
+    given = [int(it[3]) for it in states if len(it) > 3]
+    needs(given == sorted(given), "the order in which requests were taken")
 
 
 def look_at_replays(lines: Lines, run: Ran, traced: Ran, users: Dict[int, str]) -> None:
@@ -582,7 +602,7 @@ class Model:
 
     def __init__(self, edit: str):
         self.is_there = os.path.isfile(f"{REFERENCE}/acmefs_model.py")
-        self.options = {"undo": "linked", "edit": edit, "watch": "off"}
+        self.options = {"undo": "linked", "edit": edit, "watch": "on"}
         if self.is_there:
             sys.path.insert(0, REFERENCE)
             import acmefs_model  # type: ignore[import-not-found]

@@ -6,9 +6,9 @@
         win.append("make: ok\\n")
         print(win.read_event())
 
-Acme and Plumber are the two trees of a server, Win is a window, Event what is done in it. Below them, Connection has a
-tag for each message, so that any number of threads may ask at once, and Tree and File are those of any 9P server.
-docs/manual/acme9.3.md has it all.
+Acme and Plumber are the two trees of a server, Win is a window, Event what is done in it; Log has what is done to all
+windows, Jobs what is requested of programs outside. Below them, Connection has a tag for each message, so that any
+number of threads may ask at once, and Tree and File are those of any 9P server. docs/manual/acme9.3.md has it all.
 """
 
 from .acme import Acme
@@ -31,6 +31,7 @@ from .errors import (
 )
 from .events import Event, EventReader
 from .plumb import Plumber, PlumbMessage, Port
+from .watch import Job, Jobs, Log, LogEvent
 from .window import Win, WinInfo
 
 __all__ = [
@@ -43,6 +44,10 @@ __all__ = [
     "EventReader",
     "FidClunked",
     "File",
+    "Job",
+    "Jobs",
+    "Log",
+    "LogEvent",
     "NoMatch",
     "NoMatchingRule",
     "NotFound",

@@ -1,9 +1,10 @@
-"""The editor: its windows by number and by name."""
+"""The editor: its windows by number and by name, what is done to them, and what is requested."""
 
 from typing import List, Optional
 
 from .client import Tree
 from .plumb import Plumber
+from .watch import Jobs, Log
 from .window import Win, WinInfo, windows
 
 
@@ -36,6 +37,14 @@ class Acme(Tree):
     def cons(self, text: str) -> None:
         """Puts a text at the end of the window /+Errors."""
         self.write("cons", text)
+
+    def log(self) -> Log:
+        """What is done to windows from now on."""
+        return Log(self.open("log"))
+
+    def jobs(self) -> Jobs:
+        """The requests that wait for a program, those that were made before among them."""
+        return Jobs(self.open("jobs", "rw"))
 
     def plumber(self) -> Plumber:
         """The plumber, over the same connection."""

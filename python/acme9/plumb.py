@@ -2,10 +2,11 @@
 
 import re
 from dataclasses import dataclass, field
-from typing import Dict, Iterator, Optional, Tuple, Union
+from typing import Dict, Optional, Tuple, Union
 
-from .client import File, Tree
-from .errors import BadMessage, Error, FidClunked
+from .client import Tree
+from .errors import BadMessage
+from .items import Items
 
 _LINES = 6
 _ATTRIBUTE = re.compile(r" *([A-Za-z0-9_]+)=(?:'((?:[^']|'')*)'|([^ \t'=]*))(?= |$)")
@@ -69,42 +70,11 @@ def decode_attr(line: str) -> Dict[str, str]:
     return found
 
 
-class Port:
+class Port(Items[PlumbMessage]):
     """A port that is open: it gets a copy of each message that goes there, and first those that were kept."""
 
-    def __init__(self, file: File):
-        self.file, self._held = file, b""
-
-    def recv(self, timeout: Optional[float] = None) -> PlumbMessage:
-        """The next message; waits until there is one. Where `timeout` seconds pass it is a TimedOut, and none is
-        lost."""
-        while True:
-            found = PlumbMessage.decode(self._held)
-            if found:
-                message, self._held = found
-                return message
-            data = self.file.read(timeout=timeout)
-            if not data:
-                raise Error(f"{self.file.name}: it gave no message")
-            self._held += data
-
-    def __iter__(self) -> Iterator[PlumbMessage]:
-        """The messages from now on, until the port is closed."""
-        while True:
-            try:
-                message = self.recv()
-            except FidClunked:
-                return
-            yield message
-
-    def close(self) -> None:
-        self.file.close()
-
-    def __enter__(self) -> "Port":
-        return self
-
-    def __exit__(self, *whys: object) -> None:
-        self.file.__exit__(*whys)
+    def decode(self, data: bytes) -> Optional[Tuple[PlumbMessage, bytes]]:
+        return PlumbMessage.decode(data)
 
 
 class Plumber(Tree):

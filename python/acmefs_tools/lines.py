@@ -6,7 +6,7 @@
 """
 
 import re
-from dataclasses import dataclass, field
+from dataclasses import dataclass, field, replace
 from typing import Dict, List, Optional, Sequence
 
 INPUT_LIMIT = 16777216
@@ -17,7 +17,9 @@ ESCAPE = re.compile(r"\\(.?)", re.S)
 PLAIN = {"n": "\n", "\\": "\\"}
 WINDOW = re.compile(r"window (\d+) ([01]) (\d+) (\d+) :(.*)")
 ITEM = re.compile(r"item (\d+) (\d+) ([a-z]+)((?: \d+)*) :(.*)")
-REQUEST = re.compile(r"request (\d+) ([a-z]+) (\d+) ([^ ]*) :(.*)")
+# a directory may have blanks where the plumber asks
+REQUEST = re.compile(r"request (\d+) ([a-z]+) (\d+) (.*?) :(.*)")
+STATE = re.compile(r"state ([a-z]+)((?: \d+)*)(?: (?:ok|(fail)))?")
 
 
 class Fault(Exception):
@@ -102,7 +104,8 @@ class Item:
 
 @dataclass(frozen=True)
 class Request:
-    """What is asked of a program outside."""
+    """What is asked of a program outside. Format 2 alone tells its `life`, which is `waiting`, `taken`, `answered`, or
+    `failed` where the answer was that, or `lost`; `when` are the numbers behind it."""
 
     number: int
     kind: str
@@ -110,6 +113,8 @@ class Request:
     folder: str
     command: str
     input: str
+    life: str = ""
+    when: Sequence[int] = ()
 
 
 @dataclass
@@ -150,7 +155,11 @@ class Report:
         elif word == "request":
             number, kind, window, folder, command = matched(REQUEST, line).groups()
             given = text_of(following, "input")
-            self.requests.append(Request(int(number), kind, int(window), folder, unescape(command), given))
+            self.requests.append(Request(int(number), kind, int(window), unescape(folder), unescape(command), given))
+        elif word == "state" and self.requests:
+            life, when, failed = matched(STATE, line).groups()
+            numbers = [int(it) for it in when.split()]
+            self.requests[-1] = replace(self.requests[-1], life="failed" if failed else life, when=numbers)
 
     def _window(self, found: "re.Match[str]", body: str) -> None:
         number, dot = int(found[1]), (int(found[3]), int(found[4]))

@@ -148,8 +148,9 @@ class Makings:
         return rows
 
     def request_rows(self) -> List[List[Any]]:
+        """The requests: kind, window, command, input, when it was made, and its life."""
         found = zip(self._story.report.requests, self.requests)
-        return [[it.kind, it.window, it.command, cut(it.input), made] for it, made in found]
+        return [[it.kind, it.window, it.command, cut(it.input), made, it.life, [*it.when]] for it, made in found]
 
 
 def cut(text: str) -> str:

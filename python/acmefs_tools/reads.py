@@ -19,7 +19,8 @@ MOST_READ = MSIZE - wire.READ_HEADER
 FIDS, FILES = 1000, 50
 # the most that the lines of a read come to, and those by which all fids are given back
 READ_ROOM, SPARE_ROOM = 300, 100000
-WHEN = re.compile(r"(item \d+ \d+ )(taken|back|dropped)((?: \d+)*)( :.*)", re.S)
+# the life of an item, or of a request, with the numbers of entries in it
+WHEN = re.compile(r"(item \d+ \d+ |state )(taken|back|dropped|answered|lost)((?: \d+)*)( .*)?", re.S)
 
 
 class Read(NamedTuple):
@@ -203,14 +204,14 @@ def without(report: Sequence[str], woven: Woven) -> Iterator[str]:
             yield f"journal {sum(1 for it in woven.origins if it)}"
         elif word == "connections":
             yield f"connections {int(rest) - 1}"
-        elif word == "item":
-            yield WHEN.sub(lambda it: it[1] + it[2] + as_before(it[2], it[3], woven.origins) + it[4], line)
+        elif word in ("item", "state"):
+            yield WHEN.sub(lambda it: it[1] + it[2] + as_before(it[2], it[3], woven.origins) + (it[4] or ""), line)
         elif word != "connection" or rest.partition(" :")[0] != f"{woven.connection} live":
             yield line
 
 
 def as_before(life: str, when: str, origins: Sequence[int]) -> str:
-    """The numbers of an item's life, in which the first one is an opening but of `dropped`."""
+    """The numbers of a life, in which the first one is an opening but of `dropped`."""
     numbers = [int(it) for it in when.split()]
     first = 0 if life == "dropped" else 1
     return "".join(f" {it}" for it in numbers[:first] + [origins[it - 1] for it in numbers[first:]])

@@ -15,7 +15,10 @@ from .lines import unescape
 from .trace import Spoken, Step
 
 FILES = {1: "addr", 2: "body", 3: "ctl", 4: "data", 5: "errors", 6: "event", 7: "tag", 8: "xdata"}
-FIXED = {0: "/", 1: "cons", 2: "consctl", 3: "index", 4: "label", 5: "new/", 16: "plumb/", 17: "send", 18: "rules"}
+FIXED = {
+    0: "/", 1: "cons", 2: "consctl", 3: "index", 4: "label", 5: "new/", 6: "log", 7: "jobs", 16: "plumb/", 17: "send",
+    18: "rules",
+}  # fmt: skip
 WAYS = ("r", "w", "rw", "x")
 # how runes are shown that a line can't have; a byte that is no UTF-8 is one of the surrogates
 CONTROL = {it: f"\\x{it & 255:02x}" for it in [*range(32), 127, *range(0xDC80, 0xDD00)]}
